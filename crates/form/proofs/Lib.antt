@@ -1,0 +1,4 @@
+pub mod Count
+pub mod Grammar
+pub mod Prefix
+pub mod Worked

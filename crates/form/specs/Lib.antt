@@ -1,0 +1,4 @@
+pub mod Tail
+pub mod Form
+pub mod Count
+pub mod Worked

@@ -1,0 +1,1 @@
+// The normal form: tails, the grammar, and the counts of a text.

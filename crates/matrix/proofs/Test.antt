@@ -1,0 +1,72 @@
+-- Equality in meaning of two matrices as a test that computes, and that the test is sound. Assumes nothing.
+use mathlib.Core.Path.{_≡_, refl, ap}
+use mathlib.Core.Bool.{Bool, true, false, _&&_}
+use Prim.Native.Nat.{ℕ}
+use lib.Dec.{eqb, eqb→eq, T as Holds}
+use lib.IntN.{ℤ, pos, negsuc}
+use Rattle.ring.specs.declared.Element.{Element}
+use Rattle.ring.specs.Element.{element, product, root2-power}
+use Rattle.matrix.specs.declared.Matrix.{Matrix}
+use Rattle.matrix.specs.Matrix.{Same, Equal-over}
+
+-- a test of two tests
+pub both : (a b : Bool) → Holds (a && b) → Holds a × Holds b
+both true b h = (tt, h)
+both false b h = (absurd h, absurd h)
+
+unfoldable pub whole-test : ℤ → ℤ → Bool
+whole-test (pos m) (pos n) = eqb m n
+whole-test (pos m) (negsuc n) = false
+whole-test (negsuc m) (pos n) = false
+whole-test (negsuc m) (negsuc n) = eqb m n
+
+whole-equal : (x y : ℤ) → Holds (whole-test x y) → x ≡ y
+unfolding whole-test
+whole-equal (pos m) (pos n) h = ap pos (eqb→eq m n h)
+whole-equal (pos m) (negsuc n) h = absurd h
+whole-equal (negsuc m) (pos n) h = absurd h
+whole-equal (negsuc m) (negsuc n) h = ap negsuc (eqb→eq m n h)
+
+unfoldable pub element-test : Element → Element → Bool
+element-test x y =
+    whole-test (x .a0) (y .a0) && (whole-test (x .a1) (y .a1) && (whole-test (x .a2) (y .a2) && whole-test (x .a3) (y .a3)))
+
+element-equal : (x y : Element) → Holds (element-test x y) → x ≡ y
+unfolding element-test
+element-equal x y h =
+    let first = both (whole-test (x .a0) (y .a0)) _ h in
+    let second = both (whole-test (x .a1) (y .a1)) _ (first .1) in
+    let third = both (whole-test (x .a2) (y .a2)) _ (second .1) in
+    λ i.
+    element (whole-equal (x .a0) (y .a0) (first .0) i) (whole-equal (x .a1) (y .a1) (second .0) i)
+    (whole-equal (x .a2) (y .a2) (third .0) i) (whole-equal (x .a3) (y .a3) (third .1) i)
+
+unfoldable pub over-test : ℕ → ℕ → Element → Element → Bool
+over-test k l x y = element-test (product (root2-power l) x) (product (root2-power k) y)
+
+over-equal : (k l : ℕ) (x y : Element) → Holds (over-test k l x y) → Equal-over k l x y
+unfolding over-test Equal-over
+over-equal k l x y h = element-equal (product (root2-power l) x) (product (root2-power k) y) h
+
+-- two matrices are equal in meaning
+unfoldable pub same-test : Matrix → Matrix → Bool
+same-test m n =
+    over-test (m .exponent) (n .exponent) (m .top .left) (n .top .left)
+    && (over-test (m .exponent) (n .exponent) (m .top .right) (n .top .right)
+    && (over-test (m .exponent) (n .exponent) (m .bottom .left) (n .bottom .left)
+    && over-test (m .exponent) (n .exponent) (m .bottom .right) (n .bottom .right)))
+
+pub same-by-test : (m n : Matrix) → Holds (same-test m n) → Same m n
+unfolding same-test
+same-by-test m n h =
+    let k = m .exponent in
+    let l = n .exponent in
+    let first = both (over-test k l (m .top .left) (n .top .left)) _ h in
+    let second = both (over-test k l (m .top .right) (n .top .right)) _ (first .1) in
+    let third = both (over-test k l (m .bottom .left) (n .bottom .left)) _ (second .1) in
+    record {
+      top-left = over-equal k l (m .top .left) (n .top .left) (first .0);
+      top-right = over-equal k l (m .top .right) (n .top .right) (second .0);
+      bottom-left = over-equal k l (m .bottom .left) (n .bottom .left) (third .0);
+      bottom-right = over-equal k l (m .bottom .right) (n .bottom .right) (third .1);
+    }

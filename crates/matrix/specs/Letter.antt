@@ -1,0 +1,92 @@
+-- Document 01, "What goes in and what comes out" and "Numbers and matrices": the seven letters, their matrices, and
+-- the matrix of a string. A text is the list of its bytes.
+use Prim.Native.Nat.{ℕ, zero, suc}
+use mathlib.Core.Bool.{Bool, true, false, cond}
+use mathlib.Core.List.{List, [], _∷_}
+use mathlib.Core.Path.{_≡_}
+use lib.Dec.{eqb}
+use Rattle.ring.specs.Element.{nothing, one, omega, omega2, negation}
+use Rattle.matrix.specs.declared.Matrix.{Matrix}
+use Rattle.matrix.specs.Matrix.{matrix, identity, times}
+
+-- "The seven letters H S T W X Y Z", as bytes.
+abbrev pub H : ℕ
+H = 72
+
+abbrev pub S : ℕ
+S = 83
+
+abbrev pub T : ℕ
+T = 84
+
+abbrev pub W : ℕ
+W = 87
+
+abbrev pub X : ℕ
+X = 88
+
+abbrev pub Y : ℕ
+Y = 89
+
+abbrev pub Z : ℕ
+Z = 90
+
+-- "H = [[1, 1], [1, −1]]/√2; S = diag(1, ω²); T = diag(1, ω); W = ω times the identity; X = [[0, 1], [1, 0]];
+-- Z = diag(1, −1); Y = [[0, −ω²], [ω², 0]]."
+unfoldable pub gate-H : Matrix
+gate-H = matrix 1 one one one (negation one)
+
+unfoldable pub gate-S : Matrix
+gate-S = matrix 0 one nothing nothing omega2
+
+unfoldable pub gate-T : Matrix
+gate-T = matrix 0 one nothing nothing omega
+
+unfoldable pub gate-W : Matrix
+gate-W = matrix 0 omega nothing nothing omega
+
+unfoldable pub gate-X : Matrix
+gate-X = matrix 0 nothing one one nothing
+
+unfoldable pub gate-Y : Matrix
+gate-Y = matrix 0 nothing (negation omega2) omega2 nothing
+
+unfoldable pub gate-Z : Matrix
+gate-Z = matrix 0 one nothing nothing (negation one)
+
+-- the letter test: the one place that says which bytes a string may hold
+unfoldable pub is-letter : ℕ → Bool
+is-letter b =
+    cond (eqb b H) true
+    (cond (eqb b S) true
+    (cond (eqb b T) true
+    (cond (eqb b W) true
+    (cond (eqb b X) true
+    (cond (eqb b Y) true
+    (eqb b Z))))))
+
+-- the matrix of a letter (a byte that is no letter stands for nothing, and no promise speaks of one)
+unfoldable pub gate : ℕ → Matrix
+gate b =
+    cond (eqb b H) gate-H
+    (cond (eqb b S) gate-S
+    (cond (eqb b T) gate-T
+    (cond (eqb b W) gate-W
+    (cond (eqb b X) gate-X
+    (cond (eqb b Y) gate-Y
+    (cond (eqb b Z) gate-Z identity))))))
+
+-- "A string is read in matrix order: the leftmost letter is the leftmost factor. The empty string is the identity."
+unfoldable pub matrix-of : List ℕ → Matrix
+matrix-of [] = identity
+matrix-of (b ∷ s) = times (gate b) (matrix-of s)
+
+-- every byte is one of the letters
+pub data Letters : List ℕ → Type 0 where
+  none : Letters []
+  more : {b : ℕ} {s : List ℕ} → is-letter b ≡ true → Letters s → Letters (b ∷ s)
+
+-- "a byte outside the seven letters": the first such place
+pub data First-bad : List ℕ → ℕ → Type 0 where
+  here : {b : ℕ} {s : List ℕ} → is-letter b ≡ false → First-bad (b ∷ s) 0
+  later : {b : ℕ} {s : List ℕ} {p : ℕ} → is-letter b ≡ true → First-bad s p → First-bad (b ∷ s) (suc p)

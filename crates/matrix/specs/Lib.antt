@@ -1,0 +1,4 @@
+pub mod Matrix
+pub mod Letter
+pub mod Text
+pub mod Identities

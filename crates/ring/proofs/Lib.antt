@@ -1,0 +1,4 @@
+pub mod Formal
+pub mod Ring
+pub mod Root2
+pub mod Divide
