@@ -51,7 +51,7 @@ head-read (b ∷ s) = cond (eqb b H) 1 (cond (begins-with-H s) 2 0)
 tail-read : List ℕ → ℕ
 tail-read s = tail-number (head-read s) (count X s) (count S s - head-read s / 2) (count W s)
 
-every : ℕ → (ℕ → Bool) → Bool
+unfoldable pub every : ℕ → (ℕ → Bool) → Bool
 every zero test = true
 every (suc n) test = test n && every n test
 
@@ -64,7 +64,7 @@ at-last n k test last earlier below (yes less) = earlier less
 at-last n k test last earlier below (no not-less) =
     let same : n ≡ k = omega arith in subst (λ (m : ℕ). Holds (test m)) same last
 
-every-at : (n : ℕ) (test : ℕ → Bool) → Holds (every n test) → (k : ℕ) → k < n → Holds (test k)
+pub every-at : (n : ℕ) (test : ℕ → Bool) → Holds (every n test) → (k : ℕ) → k < n → Holds (test k)
 unfolding every
 every-at zero test h k below = absurd (not-suc-le-zero below)
 every-at (suc n) test h k below =

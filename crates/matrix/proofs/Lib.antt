@@ -6,3 +6,5 @@ pub mod Test
 pub mod Unitary
 pub mod Least
 pub mod Identities
+pub mod Adjoint
+pub mod FormalMatrix

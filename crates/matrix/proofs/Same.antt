@@ -16,11 +16,11 @@ over-refl : (k : ℕ) (x : Element) → Equal-over k k x x
 unfolding Equal-over
 over-refl k x = refl
 
-over-sym : (k l : ℕ) (x y : Element) → Equal-over k l x y → Equal-over l k y x
+pub over-sym : (k l : ℕ) (x y : Element) → Equal-over k l x y → Equal-over l k y x
 unfolding Equal-over
 over-sym k l x y e = sym e
 
-over-trans : (k l m : ℕ) (x y z : Element) → Equal-over k l x y → Equal-over l m y z → Equal-over k m x z
+pub over-trans : (k l m : ℕ) (x y z : Element) → Equal-over k l x y → Equal-over l m y z → Equal-over k m x z
 unfolding Equal-over
 over-trans k l m x y z e f =
     root2-power-cancel l (product (root2-power m) x) (product (root2-power k) z)

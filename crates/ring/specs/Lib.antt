@@ -1,1 +1,3 @@
 pub mod Element
+pub mod Bounds
+pub mod Divided

@@ -1,0 +1,2 @@
+pub mod Vector
+pub mod Descent

@@ -1,0 +1,5 @@
+pub mod Append
+pub mod Spelling
+pub mod Step
+pub mod Exists
+pub mod Stack
