@@ -26,6 +26,16 @@ t-count-append [] t = sym (zero-add (t-count t))
 t-count-append (b ∷ s) t =
     ap (λ (k : ℕ). cond (eqb b T) (suc k) k) (t-count-append s t) ∙ counted-more (eqb b T) (t-count s) (t-count t)
 
+-- a text holds at most as many T's as bytes
+pub t-count-within : (s : List ℕ) → t-count s ≤ length s
+unfolding t-count
+t-count-within [] = omega arith
+t-count-within (b ∷ s) = at-most (eqb b T) (t-count s) (length s) (t-count-within s)
+  where
+    at-most : (t : Bool) (m n : ℕ) → m ≤ n → cond t (suc m) m ≤ suc n
+    at-most true m n w = omega arith
+    at-most false m n w = omega arith
+
 pub t-count-replicate : (n b : ℕ) → eqb b T ≡ false → t-count (replicate n b) ≡ 0
 unfolding t-count
 t-count-replicate zero b e = refl

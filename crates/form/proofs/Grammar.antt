@@ -1,19 +1,19 @@
 -- The grammar is unambiguous: a text is spelled by one list of parts at most, so a form's front, syllables and tail number
 -- are read off its text. A tail's text tells its number, by one test over the 192. Assumes nothing.
-use Prim.Native.Nat.{ℕ, zero, suc, _+_, _*_, _-_, _/_, _≤_, _<_}
+use Prim.Native.Nat.{ℕ, suc, _+_, _*_, _-_, _/_, _≤_, _<_}
 use native.Mathlib.Nat.{not-suc-le-zero}
-use native.Mathlib.Decide.{decLt}
 use native.Mathlib.Omega.{arith}
-use mathlib.Core.Bool.{Bool, true, false, cond, _&&_, true≢false}
-use mathlib.Core.List.{List, [], _∷_, _++_}
-use mathlib.Core.Path.{_≡_, refl, sym, ap, subst, _∙_}
+use mathlib.Core.Bool.{Bool, true, false, cond, true≢false}
+use mathlib.Core.List.{List, [], _∷_, _++_, append-assoc}
+use mathlib.Core.Path.{_≡_, refl, sym, ap, ap₂, _∙_}
 use lib.Dec.{eqb, eqb→eq, T as Holds}
 use lib.ListN.{replicate, drop, getD}
 use Rattle.matrix.specs.Letter.{H, S, W, X}
 use Rattle.form.specs.Tail.{tails, tail-h, tail-b, tail-c, tail-a, head-text, tail-text}
 use Rattle.form.specs.Form.{Syllable, HT, SHT, Parts, Form, syllable-text, syllables-text, front-text, form-text}
 use Rattle.form.specs.Count.{t-count, begins-with-T}
-use Rattle.form.proofs.Count.{t-count-append, t-count-tail, t-count-syllables, front-count, h-count-within}
+use Rattle.form.proofs.Every.{every, every-at}
+use Rattle.form.proofs.Count.{t-count-append, t-count-tail, t-count-syllable, front-count, h-count-within}
 
 -- "numbered 64·h + 32·b + 8·c + a"
 abbrev pub tail-number : ℕ → ℕ → ℕ → ℕ → ℕ
@@ -22,17 +22,21 @@ tail-number h b c a = 64 * h + 32 * b + 8 * c + a
 pub tail-number-in-tails : {h b c a : ℕ} → h < 3 → b < 2 → c < 4 → a < 8 → tail-number h b c a < tails
 tail-number-in-tails h3 b2 c4 a8 = omega arith
 
+-- a number's four fields
+pub tail-fields :
+    (h b c a : ℕ) → b < 2 → c < 4 → a < 8 →
+    (tail-h (tail-number h b c a) ≡ h) × (tail-b (tail-number h b c a) ≡ b) ×
+    (tail-c (tail-number h b c a) ≡ c) × (tail-a (tail-number h b c a) ≡ a)
+tail-fields h b c a b2 c4 a8 = (omega arith, omega arith, omega arith, omega arith)
+
 -- "with h = 0, 1, 2 for nothing, H, SH, and b, c, a the counts of X, S, W"
 pub tail-spelled :
     (h b c a : ℕ) → b < 2 → c < 4 → a < 8 →
     tail-text (tail-number h b c a) ≡ head-text h ++ (replicate b X ++ (replicate c S ++ replicate a W))
 unfolding tail-text
 tail-spelled h b c a b2 c4 a8 =
-    let at-h : tail-h (tail-number h b c a) ≡ h = omega arith in
-    let at-b : tail-b (tail-number h b c a) ≡ b = omega arith in
-    let at-c : tail-c (tail-number h b c a) ≡ c = omega arith in
-    let at-a : tail-a (tail-number h b c a) ≡ a = omega arith in
-    simp (at-h, at-b, at-c, at-a)
+    let fields = tail-fields h b c a b2 c4 a8 in
+    simp (fields .0, fields .1, fields .2, fields .3)
 
 -- a tail's number, read off its text: its head by its first two bytes, the counts of X, S and W, less the head's S
 
@@ -50,26 +54,6 @@ head-read (b ∷ s) = cond (eqb b H) 1 (cond (begins-with-H s) 2 0)
 
 tail-read : List ℕ → ℕ
 tail-read s = tail-number (head-read s) (count X s) (count S s - head-read s / 2) (count W s)
-
-unfoldable pub every : ℕ → (ℕ → Bool) → Bool
-every zero test = true
-every (suc n) test = test n && every n test
-
-both : (s t : Bool) → Holds (s && t) → Holds s × Holds t
-both true t h = (tt, h)
-both false t h = (absurd h, absurd h)
-
-at-last : (n k : ℕ) (test : ℕ → Bool) → Holds (test n) → (k < n → Holds (test k)) → k < suc n → Dec (k < n) → Holds (test k)
-at-last n k test last earlier below (yes less) = earlier less
-at-last n k test last earlier below (no not-less) =
-    let same : n ≡ k = omega arith in subst (λ (m : ℕ). Holds (test m)) same last
-
-pub every-at : (n : ℕ) (test : ℕ → Bool) → Holds (every n test) → (k : ℕ) → k < n → Holds (test k)
-unfolding every
-every-at zero test h k below = absurd (not-suc-le-zero below)
-every-at (suc n) test h k below =
-    let halves = both (test n) (every n test) h in
-    at-last n k test (halves .0) (every-at n test (halves .1) k) below (decLt k n)
 
 reads-itself : ℕ → Bool
 reads-itself n = eqb (tail-read (tail-text n)) n
@@ -89,42 +73,45 @@ tails-distinct m n below below′ same = sym (tail-read-back m below) ∙ ap tai
 -- the parts after the front
 
 -- a text that a syllable begins is no tail, since it holds a T
-syllable-is-no-tail :
-    (s : Syllable) (ss : List Syllable) (m n : ℕ) → syllables-text (s ∷ ss) ++ tail-text m ≡ tail-text n → ⊥
-syllable-is-no-tail s ss m n same =
-    omega (arith, ap t-count same, t-count-append (syllables-text (s ∷ ss)) (tail-text m), t-count-syllables (s ∷ ss), t-count-tail n)
+pub syllable-is-no-tail : (s : Syllable) (u : List ℕ) (n : ℕ) → syllable-text s ++ u ≡ tail-text n → ⊥
+syllable-is-no-tail s u n same =
+    omega (arith, ap t-count same, t-count-append (syllable-text s) u, t-count-syllable s, t-count-tail n)
 
-abbrev first-byte : List ℕ → ℕ
+H-is-not-S : H ≡ S → ⊥
+H-is-not-S e = omega arith
+
+first-byte : List ℕ → ℕ
 first-byte s = getD s 0 0
+
+-- a text begins with one syllable at most
+pub syllable-unique :
+    (s s′ : Syllable) (u v : List ℕ) → syllable-text s ++ u ≡ syllable-text s′ ++ v → (s ≡ s′) × (u ≡ v)
+unfolding syllable-text first-byte
+syllable-unique HT HT u v same = (refl, ap (drop 2) same)
+syllable-unique HT SHT u v same = absurd (H-is-not-S (ap first-byte same))
+syllable-unique SHT HT u v same = absurd (H-is-not-S (sym (ap first-byte same)))
+syllable-unique SHT SHT u v same = (refl, ap (drop 3) same)
 
 -- syllables and tail alike
 pub record Same-rest (ss ss′ : List Syllable) (m n : ℕ) : Type 0 where
   pub syllables : ss ≡ ss′
   pub tail : m ≡ n
 
-one-more : {ss ss′ : List Syllable} {m n : ℕ} (s : Syllable) → Same-rest ss ss′ m n → Same-rest (s ∷ ss) (s ∷ ss′) m n
-one-more s same = record { syllables = ap (λ (l : List Syllable). s ∷ l) (same .syllables); tail = same .tail }
-
-H-is-not-S : H ≡ S → ⊥
-H-is-not-S e = omega arith
+pub rest-unique :
+    (ss ss′ : List Syllable) (m n : ℕ) → m < tails → n < tails →
+    syllables-text ss ++ tail-text m ≡ syllables-text ss′ ++ tail-text n → Same-rest ss ss′ m n
+unfolding syllables-text
+rest-unique [] [] m n below below′ same = record { syllables = refl; tail = tails-distinct m n below below′ same }
+rest-unique [] (s ∷ ss′) m n below below′ same = absurd (syllable-is-no-tail s _ m (simp append-assoc at (sym same)))
+rest-unique (s ∷ ss) [] m n below below′ same = absurd (syllable-is-no-tail s _ n (simp append-assoc at same))
+rest-unique (s ∷ ss) (s′ ∷ ss′) m n below below′ same =
+    let parts = syllable-unique s s′ _ _ (simp append-assoc at same) in
+    let rest = rest-unique ss ss′ m n below below′ (parts .1) in
+    record { syllables = ap₂ (λ (x : Syllable) (l : List Syllable). x ∷ l) (parts .0) (rest .syllables); tail = rest .tail }
 
 no-T : (b : Bool) → front-count b ≤ 0 → b ≡ false
 no-T true h = absurd (not-suc-le-zero h)
 no-T false h = refl
-
-pub rest-unique :
-    (ss ss′ : List Syllable) (m n : ℕ) → m < tails → n < tails →
-    syllables-text ss ++ tail-text m ≡ syllables-text ss′ ++ tail-text n → Same-rest ss ss′ m n
-unfolding syllables-text syllable-text
-rest-unique [] [] m n below below′ same = record { syllables = refl; tail = tails-distinct m n below below′ same }
-rest-unique [] (s ∷ ss′) m n below below′ same = absurd (syllable-is-no-tail s ss′ n m (sym same))
-rest-unique (s ∷ ss) [] m n below below′ same = absurd (syllable-is-no-tail s ss m n same)
-rest-unique (HT ∷ ss) (HT ∷ ss′) m n below below′ same =
-    one-more HT (rest-unique ss ss′ m n below below′ (ap (drop 2) same))
-rest-unique (HT ∷ ss) (SHT ∷ ss′) m n below below′ same = absurd (H-is-not-S (ap first-byte same))
-rest-unique (SHT ∷ ss) (HT ∷ ss′) m n below below′ same = absurd (H-is-not-S (sym (ap first-byte same)))
-rest-unique (SHT ∷ ss) (SHT ∷ ss′) m n below below′ same =
-    one-more SHT (rest-unique ss ss′ m n below below′ (ap (drop 3) same))
 
 -- the whole form
 
@@ -149,7 +136,9 @@ front-unique false false s t e f same = (refl, same)
 pub parts-unique : (p q : Parts) → p .tail < tails → q .tail < tails → form-text p ≡ form-text q → p ≡ q
 unfolding form-text
 parts-unique p q below below′ same =
-    let fronts = front-unique (p .front) (q .front) _ _ (rest-begins-without-T (p .syllables) (p .tail)) (rest-begins-without-T (q .syllables) (q .tail)) same in
+    let no-T-p = rest-begins-without-T (p .syllables) (p .tail) in
+    let no-T-q = rest-begins-without-T (q .syllables) (q .tail) in
+    let fronts = front-unique (p .front) (q .front) _ _ no-T-p no-T-q same in
     let rests = rest-unique (p .syllables) (q .syllables) (p .tail) (q .tail) below below′ (fronts .1) in
     λ i. record { front = fronts .0 i; syllables = rests .syllables i; tail = rests .tail i }
 

@@ -13,7 +13,7 @@ use Rattle.form.specs.Tail.{tails, tail-text, head-text}
 use Rattle.form.specs.Form.{Syllable, HT, SHT, Parts, syllable-text, syllables-text, front-text, form-text}
 use Rattle.form.specs.Count.{t-count}
 use Rattle.form.proofs.Count.{t-count-form, front-count}
-use Rattle.form.proofs.Grammar.{every, every-at}
+use Rattle.form.proofs.Every.{every, every-at}
 use Rattle.rotation.specs.Rotation.{Axis, axis-X, axis-Y, axis-Z, Leftmost, third-for-T, first-for-HT, second-for-SHT}
 use Rattle.rotation.proofs.Vector.{Vector, unit, letter-turn, text-turn}
 use Rattle.rotation.proofs.Oddness.{odd-element, mixed, pattern, after-T, after-HT, after-SHT}

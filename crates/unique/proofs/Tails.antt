@@ -16,7 +16,7 @@ use Rattle.matrix.specs.Matrix.{identity, times, Equal-over, Same}
 use Rattle.matrix.specs.Letter.{matrix-of, gate, gate-H, gate-S, gate-X, gate-W}
 use Rattle.matrix.proofs.Test.{both}
 use Rattle.form.specs.Tail.{tails, tail-text, head-text}
-use Rattle.form.proofs.Grammar.{every, every-at}
+use Rattle.form.proofs.Every.{every, every-at}
 
 -- a sign, as a digit
 sign : ℤ → ℕ

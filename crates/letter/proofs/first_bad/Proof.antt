@@ -37,7 +37,10 @@ loop-less : tie.Need-loop-less Inv-loop μ-loop
 loop-less c = search needs
 
 loop-again : tie.Need-loop-again Inv-loop μ-loop
-loop-again c = (search needs, rw add-one (letters-more _ _ (c .before .before .before .loop-test .taken) (c .before .before .before .before .loop .inv .1) (sym (c .before .is-letter .ensures) ∙ not-false _ (c .if1 .left))))
+loop-again c =
+    let inside = c .before .before .before .loop-test .taken in
+    let letters = c .before .before .before .before .loop .inv .1 in
+    (search needs, rw add-one (letters-more _ _ inside letters (sym (c .before .is-letter .ensures) ∙ not-false _ (c .if1 .left))))
 
 returns-2 : tie.Need-returns-2 Inv-loop μ-loop
 returns-2 c = rw (take-all _ _ (c .loop-test .left)) at (c .before .loop .inv .1)

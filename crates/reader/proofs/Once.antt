@@ -1,0 +1,79 @@
+-- The form reader's promise fixes its answer: two answers that fit it for one text are equal, as they are said and as they
+-- are given; and a text within the limit is accepted exactly when it is a form. Assumes nothing.
+use Prim.Native.Nat.{ℕ, _≤_}
+use native.Mathlib.Omega.{arith}
+use mathlib.Core.List.{List}
+use mathlib.Core.Logic.{_↔_}
+use mathlib.Core.Path.{_≡_, refl, ap}
+use lib.ListN as L
+use Rattle.form.specs.Form.{Form, Parts}
+use Rattle.form.proofs.Grammar.{form-parts-unique}
+use Rattle.form.proofs.Count.{form-is-letters}
+use Rattle.letter.proofs.Letters.{letters-hold-none-bad, first-bad-once}
+use Rattle.answer.specs.Limits.{form-limit}
+use Rattle.answer.specs.Refusal.{Said, accepted, refused}
+use Rattle.reader.specs.declared.Reading.{Reading}
+use Rattle.reader.specs.declared.Read.{Read}
+use Rattle.reader.specs.declared.Read.the-variants.{Form as a-Form, Refused}
+use Rattle.reader.specs.Reader.{said, reading-of, Longest-prefix, Form-reader, too-long, bad-letter, not-form, form}
+use Rattle.answer.proofs.Told.{refusal-told}
+
+-- the longest prefix has one length
+pub longest-prefix-once : {text : List ℕ} {m n : ℕ} → Longest-prefix text m → Longest-prefix text n → m ≡ n
+longest-prefix-once {m = m} {n = n} p q =
+    let less : m ≤ n = q .longest m (p .within) (p .form) in
+    let more : n ≤ m = p .longest n (q .within) (q .form) in
+    omega arith
+
+form-reads-once : {text : List ℕ} (f g : Form text) → reading-of text (f .parts .tail) ≡ reading-of text (g .parts .tail)
+form-reads-once {text} f g = ap (λ (p : Parts). reading-of text (p .tail)) (form-parts-unique f g)
+
+-- two answers that both fit the promise are equal
+pub reader-answers-once : {text : List ℕ} {a b : Said Reading} → Form-reader text a → Form-reader text b → a ≡ b
+reader-answers-once (too-long h) (too-long k) = refl
+reader-answers-once (too-long h) (bad-letter k q) = absurd (omega arith)
+reader-answers-once (too-long h) (not-form k l n q) = absurd (omega arith)
+reader-answers-once (too-long h) (form k g) = absurd (omega arith)
+reader-answers-once (bad-letter h p) (too-long k) = absurd (omega arith)
+reader-answers-once (bad-letter h p) (bad-letter k q) = ap (refused 1) (first-bad-once p q)
+reader-answers-once (bad-letter h p) (not-form k l n q) = absurd (letters-hold-none-bad l p)
+reader-answers-once (bad-letter h p) (form k g) = absurd (letters-hold-none-bad (form-is-letters g) p)
+reader-answers-once (not-form h l n p) (too-long k) = absurd (omega arith)
+reader-answers-once (not-form h l n p) (bad-letter k q) = absurd (letters-hold-none-bad l q)
+reader-answers-once (not-form h l n p) (not-form k l′ n′ q) = ap (refused 7) (longest-prefix-once p q)
+reader-answers-once (not-form h l n p) (form k g) = absurd (n g)
+reader-answers-once (form h f) (too-long k) = absurd (omega arith)
+reader-answers-once (form h f) (bad-letter k q) = absurd (letters-hold-none-bad (form-is-letters f) q)
+reader-answers-once (form h f) (not-form k l n q) = absurd (n f)
+reader-answers-once (form h f) (form k g) = ap accepted (form-reads-once f g)
+
+-- no two cases of the enum are said alike
+pub said-once : (r s : Read) → said r ≡ said s → r ≡ s
+said-once (a-Form x) (a-Form y) same = let readings : x ≡ y = cc in ap a-Form readings
+said-once (a-Form x) (Refused s) same = absurd (let z : _≡_ {A = ℕ} 0 1 = cc in omega arith)
+said-once (Refused r) (a-Form y) same = absurd (let z : _≡_ {A = ℕ} 0 1 = cc in omega arith)
+said-once (Refused r) (Refused s) same = ap Refused (refusal-told r s same)
+
+-- so the value that is returned is one
+pub reader-returns-once : (text : List ℕ) (r s : Read) → Form-reader text (said r) → Form-reader text (said s) → r ≡ s
+reader-returns-once text r s fits fits′ = said-once r s (reader-answers-once fits fits′)
+
+-- what is accepted is a form within the limit, read as it is
+pub record Accepted (text : List ℕ) (reading : Reading) : Type 0 where
+  pub within : L.length text ≤ form-limit
+  pub form : Form text
+  pub read : reading ≡ reading-of text (form .parts .tail)
+
+accepted-is-form : {text : List ℕ} {reading : Reading} → Form-reader text (accepted reading) → Accepted text reading
+accepted-is-form (form h f) = record { within = h; form = f; read = refl }
+
+-- "accepted exactly when the text is a form"
+pub accepted-exactly-forms :
+    (text : List ℕ) (reading : Reading) → Form-reader text (accepted reading) ↔ Accepted text reading
+accepted-exactly-forms text reading = (accepted-is-form, λ a. rw (a .read) (form (a .within) (a .form)))
+
+-- a form within the limit is never refused
+pub form-is-accepted :
+    {text : List ℕ} {answer : Said Reading} → (f : Form text) → L.length text ≤ form-limit → Form-reader text answer →
+    answer ≡ accepted (reading-of text (f .parts .tail))
+form-is-accepted f inside fits = reader-answers-once fits (form inside f)
