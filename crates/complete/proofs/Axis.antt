@@ -2,10 +2,10 @@
 -- brings it from the y axis, H from the x axis, and X from −z, so that at the end it is +z. Assumes nothing.
 use mathlib.Core.Path.{_≡_, refl, ap, ap₂, sym, _∙_}
 use mathlib.Core.Bool.{Bool, true, false, cond, _&&_, true≢false, false≢true}
-use Prim.Native.Nat.{ℕ, zero, suc, _+_, _*_, _≤_}
+use Prim.Native.Nat.{ℕ, zero, suc, _+_, _≤_}
 use native.Mathlib.Nat.{mul-suc}
 use native.Mathlib.Omega.{arith}
-use lib.IntN.{ℤ, pos, negsuc, _+ℤ_, _*ℤ_, negℤ, natAbs}
+use lib.IntN.{ℤ, pos, negsuc, negℤ}
 use lib.Dec.{leb·suc-zero}
 use lib.Signed.{ltZ}
 use Rattle.whole.proofs.Parity.{odd, odd-times, odd-negate}
@@ -14,22 +14,9 @@ use Rattle.matrix.specs.Letter.{H, S, X}
 use Rattle.complete.specs.declared.Vector.{Vector}
 use Rattle.complete.specs.declared.Rest.{Rest}
 use Rattle.complete.specs.Vector.{Guided, number, negated}
-use Rattle.complete.specs.Descent.{without-S, without-H, without-X, odd-x, odd-y, off-y, off-x, downward, turned-up, axis-taken, upright, record-without-S, vector-without-S, record-without-H, vector-without-H, record-without-X, vector-without-X}
-use Rattle.complete.proofs.Norm.{Norm}
+use Rattle.complete.specs.Descent.{without-S, without-H, without-X, odd-x, odd-y, off-y, off-x, downward, turned-up, axis-taken, upright, vector-without-S, vector-without-H, vector-without-X}
+use Rattle.complete.proofs.Norm.{Norm, square, norm-squares}
 use Rattle.complete.proofs.Syllable.{norm-of-guided, S-guided, H-guided, X-guided, guided-either, Restores, restores-nothing, restores-append, restores-either, S-restores, H-restores, X-restores}
-
--- the square of a number's size
-abbrev square : ℤ → ℕ
-square a = natAbs a * natAbs a
-
--- the squares of the numerators add up to one
-unit-squares : {v : Vector} → Norm v 0 →
-    square (v .x .whole) + square (v .y .whole) + square (v .z .whole) + 2 * (square (v .x .root2) + square (v .y .root2) + square (v .z .root2)) ≡ 1
-unit-squares {v} l =
-    ap natAbs
-    (sym (ap₂ _+ℤ_ (ap₂ _+ℤ_ (ap₂ _+ℤ_ (square-size (v .x .whole)) (square-size (v .y .whole))) (square-size (v .z .whole)))
-    (ap (λ (n : ℤ). pos 2 *ℤ n) (ap₂ _+ℤ_ (ap₂ _+ℤ_ (square-size (v .x .root2)) (square-size (v .y .root2))) (square-size (v .z .root2)))))
-    ∙ l .whole-squares)
 
 -- an odd number has a square above zero, and an even one no square one
 odd-square : (a : ℤ) → odd a ≡ true → square a ≡ 0 → ⊥
@@ -65,17 +52,17 @@ one-of-square (pos (suc (suc n))) e up = absurd (omega (arith, mul-suc (suc (suc
 up-vector : {v : Vector} → Norm v 0 → odd (v .x .whole) ≡ false → odd (v .y .whole) ≡ false → ltZ (v .z .whole) (pos 0) ≡ false →
     v .z ≡ number (pos 1) (pos 0)
 up-vector {v} l x y up =
-    let total = unit-squares l in
+    let total = norm-squares l in
     let no-x = even-square (v .x .whole) x in
     let no-y = even-square (v .y .whole) y in
     ap₂ number (one-of-square (v .z .whole) (omega arith) up) (zero-of-square (v .z .root2) (omega arith))
 
 -- ---- from an axis to +z
-off-y-guided : {r : Rest} {n : ℕ} → Guided r n → Guided (off-y r) n
+pub off-y-guided : {r : Rest} {n : ℕ} → Guided r n → Guided (off-y r) n
 unfolding off-y
 off-y-guided {r} g = guided-either (odd-y r) (S-guided g) g
 
-off-x-guided : {r : Rest} {n : ℕ} → Guided r n → Guided (off-x r) n
+pub off-x-guided : {r : Rest} {n : ℕ} → Guided r n → Guided (off-x r) n
 unfolding off-x
 off-x-guided {r} g = guided-either (odd-x r) (H-guided g) g
 
@@ -89,30 +76,30 @@ upright-guided g = turned-up-guided (off-x-guided (off-y-guided g))
 
 -- S off the left: y is even
 off-y-parity : {r : Rest} → Guided r 0 → odd-y (off-y r) ≡ false
-unfolding off-y record-without-S vector-without-S negated
+unfolding off-y vector-without-S negated
 off-y-parity {r} g = by (odd-y r) refl
   where
     by : (t : Bool) → odd-y r ≡ t → odd-y (cond t (without-S r) r) ≡ false
     by true e =
-        let total = unit-squares (norm-of-guided g) in
+        let total = norm-squares (norm-of-guided g) in
         odd-negate (r .vector .x .whole) ∙ even-beside (r .vector .y .whole) (r .vector .x .whole) e (omega arith)
     by false e = e
 
 -- H off the left: x is even, and y stays so
 off-x-parity : {r : Rest} → Guided r 0 → odd-y r ≡ false → (odd-x (off-x r) ≡ false) × (odd-y (off-x r) ≡ false)
-unfolding off-x record-without-H vector-without-H negated
+unfolding off-x vector-without-H negated
 off-x-parity {r} g y = by (odd-x r) refl
   where
     by : (t : Bool) → odd-x r ≡ t → (odd-x (cond t (without-H r) r) ≡ false) × (odd-y (cond t (without-H r) r) ≡ false)
     by true e =
-        let total = unit-squares (norm-of-guided g) in
+        let total = norm-squares (norm-of-guided g) in
         (even-beside (r .vector .x .whole) (r .vector .z .whole) e (omega arith), odd-negate (r .vector .y .whole) ∙ y)
     by false e = (e, y)
 
 -- X off the left: z is not below zero, and x and y stay even
 turned-up-parity : (r : Rest) → (odd-x r ≡ false) × (odd-y r ≡ false) →
     (odd-x (turned-up r) ≡ false) × (odd-y (turned-up r) ≡ false) × (downward (turned-up r) ≡ false)
-unfolding turned-up record-without-X vector-without-X negated
+unfolding turned-up vector-without-X negated
 turned-up-parity r even = by (downward r) refl
   where
     opposite : (z : ℤ) → ltZ z (pos 0) ≡ true → ltZ (negℤ z) (pos 0) ≡ false

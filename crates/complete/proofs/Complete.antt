@@ -3,7 +3,7 @@
 use mathlib.Core.Path.{_≡_, refl, ap, ap₂, sym, _∙_}
 use mathlib.Core.Bool.{Bool, true, false, _&&_}
 use mathlib.Core.List.{List, [], _∷_, _++_}
-use Prim.Native.Nat.{ℕ, zero, suc, _+_, _-_, _*_, _/_, _%_, _≤_}
+use Prim.Native.Nat.{ℕ, zero, suc, _+_, _*_, _/_, _%_, _≤_}
 use native.Mathlib.Omega.{arith}
 use lib.Dec.{eqb}
 use lib.IntN.{pos, _+ℤ_, _-ℤ_}
@@ -24,7 +24,7 @@ use Rattle.form.proofs.Count.{t-count-append, t-count-replicate, letters-append
 use Rattle.complete.specs.declared.Rest.{Rest}
 use Rattle.complete.specs.declared.Real.{Real}
 use Rattle.complete.specs.Vector.{number, real, vector-of, two, Guided}
-use Rattle.complete.specs.Descent.{rest, if-taken, odd-x, odd-y, odd-z, past-S, past-H, syllable-taken, past-syllable, off-y, off-x, downward, axis-taken, upright, phases-text, diagonal-text, phase, word-below, word-of}
+use Rattle.complete.specs.Descent.{rest, if-taken, odd-x, odd-y, odd-z, past-S, past-H, syllable-taken, past-syllable, off-y, off-x, downward, axis-taken, upright, turn, phases-text, diagonal-text, phase, word-below, word-of}
 use Rattle.complete.proofs.Norm.{realᶠ}
 use Rattle.complete.proofs.Syllable.{Restores, past-syllable-guided, syllable-restores}
 use Rattle.complete.proofs.Axis.{upright-guided, upright-up, axis-restores}
@@ -173,13 +173,13 @@ diagonal-T's : (m : Matrix) → t-count (diagonal-text m) ≤ 1
 unfolding diagonal-text phases-text
 diagonal-T's m =
     let j = phase (m .top .left) in
-    let turn = (phase (m .bottom .right) + 8 - j) % 8 in
+    let turned = turn j (phase (m .bottom .right)) in
     omega (
       arith,
-      t-count-append (replicate (turn % 2) T) (replicate (turn / 2) S ++ replicate j W),
-      t-count-append (replicate (turn / 2) S) (replicate j W),
-      t-count-T's (turn % 2),
-      t-count-replicate (turn / 2) S refl,
+      t-count-append (replicate (turned % 2) T) (replicate (turned / 2) S ++ replicate j W),
+      t-count-append (replicate (turned / 2) S) (replicate j W),
+      t-count-T's (turned % 2),
+      t-count-replicate (turned / 2) S refl,
       t-count-replicate j W refl,
     )
 
@@ -221,9 +221,9 @@ diagonal-letters : (m : Matrix) → Letters (diagonal-text m)
 unfolding diagonal-text phases-text is-letter
 diagonal-letters m =
     let j = phase (m .top .left) in
-    let turn = (phase (m .bottom .right) + 8 - j) % 8 in
-    letters-append (letters-replicate (turn % 2) T refl)
-    (letters-append (letters-replicate (turn / 2) S refl) (letters-replicate j W refl))
+    let turned = turn j (phase (m .bottom .right)) in
+    letters-append (letters-replicate (turned % 2) T refl)
+    (letters-append (letters-replicate (turned / 2) S refl) (letters-replicate j W refl))
 
 pub word-letters : (n : ℕ) (r : Rest) → Letters (word-below n r)
 unfolding word-below

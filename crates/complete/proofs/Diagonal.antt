@@ -2,7 +2,7 @@
 -- letters. Assumes nothing.
 use mathlib.Core.Path.{_≡_, refl, ap, ap₂, sym, _∙_, subst}
 use mathlib.Core.List.{List, [], _∷_, _++_}
-use Prim.Native.Nat.{ℕ, zero, suc, _+_, _-_, _/_, _%_, _<_}
+use Prim.Native.Nat.{ℕ, zero, suc, _+_, _/_, _%_, _<_}
 use native.Mathlib.Nat.{zero-add, suc-add}
 use native.Mathlib.Decide.{decLt}
 use native.Mathlib.Omega.{arith}
@@ -22,7 +22,7 @@ use Rattle.matrix.proofs.Entries.{equal-entries}
 use Rattle.matrix.proofs.Unitary.{Isometry, isometry-of-unitary}
 use Rattle.complete.specs.declared.Rest.{Rest}
 use Rattle.complete.specs.Vector.{number, real, two, Guided}
-use Rattle.complete.specs.Descent.{phase, phases-text, diagonal-text}
+use Rattle.complete.specs.Descent.{phase, turn, phases-text, diagonal-text}
 use Rattle.complete.proofs.Unit.{size-real, Of-size, omega-power, phase-of-size}
 
 -- ---- the record is diagonal
@@ -162,19 +162,13 @@ full-turn n = omega-power-plus 8 n ∙ ap (λ (x : Element). product x (omega-po
 pub phases-matrix : (j l : ℕ) → j < 8 → l < 8 → matrix-of (phases-text j l) ≡ diagonal (omega-power j) (omega-power l)
 unfolding phases-text
 phases-matrix j l j-below l-below =
-    T-matrix (turn % 2) (turn / 2 + turn / 2 + j) (omega-power j) (replicate (turn / 2) S ++ replicate j W)
-    (S-matrix (turn / 2) j (omega-power j) (replicate j W) (W-matrix j))
-    ∙ ap (diagonal (omega-power j)) turned-to
+    T-matrix (turn j l % 2) (turn j l / 2 + turn j l / 2 + j) (omega-power j) (replicate (turn j l / 2) S ++ replicate j W)
+    (S-matrix (turn j l / 2) j (omega-power j) (replicate j W) (W-matrix j))
+    ∙ ap (diagonal (omega-power j)) (turned-to (decLt l j))
   where
-    turn : ℕ
-    turn = (l + 8 - j) % 8
-
-    turned-to : omega-power (turn % 2 + (turn / 2 + turn / 2 + j)) ≡ omega-power l
-    turned-to = by (decLt l j)
-      where
-        by : Dec (l < j) → omega-power (turn % 2 + (turn / 2 + turn / 2 + j)) ≡ omega-power l
-        by (yes h) = ap omega-power (omega arith) ∙ full-turn l
-        by (no h) = ap omega-power (omega arith)
+    turned-to : Dec (l < j) → omega-power (turn j l % 2 + (turn j l / 2 + turn j l / 2 + j)) ≡ omega-power l
+    turned-to (yes h) = ap omega-power (omega arith) ∙ full-turn l
+    turned-to (no h) = ap omega-power (omega arith)
 
 -- a guided rest whose vector is +z is what its letters mean
 pub diagonal-means : {r : Rest} → Guided r 0 → r .vector .z ≡ number (pos 1) (pos 0) → Same (matrix-of (diagonal-text (r .matrix))) (r .matrix)

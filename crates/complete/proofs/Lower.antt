@@ -97,11 +97,11 @@ lowered-led r d n b x y z =
 
 -- ---- T taken off
 pub T-restored : (r : Rest) → times gate-T (without-T r .matrix) ≡ r .matrix
-unfolding gate-T record-without-T vector-without-T
+unfolding gate-T record-without-T
 T-restored r = phase-restored (conjugate ω) ω omega-unit turned-back back-product conjugate-back (r .matrix)
 
 pub T-isometry : (r : Rest) → Isometry (r .matrix) → Isometry (without-T r .matrix)
-unfolding record-without-T vector-without-T
+unfolding record-without-T
 T-isometry r i = phase-isometry (conjugate ω) ω omega-unit turned-back back-product conjugate-back {m = r .matrix} i
 
 -- ω⁻¹(1 + i) = √2 = ω(1 − i)

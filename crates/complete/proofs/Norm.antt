@@ -1,17 +1,17 @@
 -- The vector of a column has the length that its exponent says: the two equations of its numerators follow from the
 -- determinant of the column's products, which is zero. Read modulo two they say which numerators are odd together.
 -- Assumes nothing.
-use mathlib.Core.Path.{_≡_, refl, ap, sym, _∙_}
+use mathlib.Core.Path.{_≡_, refl, ap, ap₂, sym, _∙_}
 use mathlib.Core.Bool.{Bool, true, false, _&&_, true≢false, false≢true}
 use mathlib.Core.List.{List, [], _∷_}
-use Prim.Native.Nat.{ℕ, suc, _^_}
+use Prim.Native.Nat.{ℕ, suc, _+_, _*_, _^_}
 use native.Mathlib.Nat.{pow-suc}
 use native.Mathlib.Omega.{arith}
-use lib.IntN.{ℤ, pos, _+ℤ_, _*ℤ_, negℤ}
+use lib.IntN.{natAbs, ℤ, pos, _+ℤ_, _*ℤ_, negℤ}
 use Rattle.whole.proofs.Whole.{whole}
 use Rattle.whole.proofs.Solver.{Expr, var, con, _⊕_, _⊗_, ⊖_, value, combine, given, done}
 use Rattle.whole.proofs.Parity.{odd, differ, odd-equation}
-use Rattle.whole.proofs.Cancellation.{double-cancel}
+use Rattle.whole.proofs.Cancellation.{double-cancel, square-size}
 use Rattle.ring.specs.declared.Element.{Element}
 use Rattle.ring.specs.Element.{element, omega2, sum, product, multiple, turned, conjugate}
 use Rattle.ring.proofs.Formal.{Formal, formal, _+ᶠ_, _*ᶠ_, coefficientwise}
@@ -78,6 +78,19 @@ norm-of-led r d n b =
       whole-squares = ap (λ (z : Element). z .a0) e;
       no-root2 = double-cancel (value whole (numerators (r .vector)) root2-partᶠ) (pos 0) (ap (λ (z : Element). z .a1) e);
     }
+
+-- the square of a number's size
+abbrev pub square : ℤ → ℕ
+square a = natAbs a * natAbs a
+
+-- the first of the two, between natural numbers
+pub norm-squares : {v : Vector} {n : ℕ} → Norm v n →
+    square (v .x .whole) + square (v .y .whole) + square (v .z .whole) + 2 * (square (v .x .root2) + square (v .y .root2) + square (v .z .root2)) ≡ 2 ^ n
+norm-squares {v} l =
+    ap natAbs
+    (sym (ap₂ _+ℤ_ (ap₂ _+ℤ_ (ap₂ _+ℤ_ (square-size (v .x .whole)) (square-size (v .y .whole))) (square-size (v .z .whole)))
+    (ap (λ (n : ℤ). pos 2 *ℤ n) (ap₂ _+ℤ_ (ap₂ _+ℤ_ (square-size (v .x .root2)) (square-size (v .y .root2))) (square-size (v .z .root2)))))
+    ∙ l .whole-squares)
 
 -- ---- modulo two, above exponent 0
 -- an even number of the three whole parts is odd

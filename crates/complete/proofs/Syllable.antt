@@ -13,7 +13,7 @@ use Rattle.matrix.proofs.Same.{same-of-equal, same-trans, same-times-left}
 use Rattle.matrix.proofs.Unitary.{isometry-of-unitary, unitary-of-isometry}
 use Rattle.complete.specs.declared.Rest.{Rest}
 use Rattle.complete.specs.Vector.{Guided}
-use Rattle.complete.specs.Descent.{without-S, without-H, without-X, without-T, lowered, if-taken, odd-x, odd-y, odd-z, past-S, past-H, past-T, syllable-taken, past-syllable, record-without-S, vector-without-S, record-without-H, vector-without-H, vector-lowered}
+use Rattle.complete.specs.Descent.{without-S, without-H, without-X, without-T, lowered, if-taken, odd-x, odd-y, odd-z, past-S, past-H, past-T, syllable-taken, past-syllable, vector-without-S, vector-without-H}
 use Rattle.complete.proofs.Turn.{S-restored, S-isometry, S-led, X-restored, X-isometry, X-led, H-restored, H-isometry, H-led}
 use Rattle.complete.proofs.Norm.{Norm, norm-of-led, odd-pairs, odd-together}
 use Rattle.complete.proofs.Lower.{lowered-led, T-restored, T-isometry, T-led}
@@ -59,7 +59,7 @@ past-H-guided {r} g = guided-either (odd-y r && odd-z r) (H-guided g) g
 
 -- after S: x and z are not odd together
 pub past-S-parity : {r : Rest} {n : ℕ} → Guided r (suc n) → odd-x (past-S r) && odd-z (past-S r) ≡ false
-unfolding past-S record-without-S vector-without-S
+unfolding past-S vector-without-S
 past-S-parity {r} g = by (odd-x r && odd-z r) refl
   where
     others : (p q s : Bool) → p && s ≡ true → differ p (differ q s) ≡ false → q && s ≡ false
@@ -74,7 +74,7 @@ past-S-parity {r} g = by (odd-x r && odd-z r) refl
 
 -- after H: z is even
 pub past-H-parity : {r : Rest} {n : ℕ} → Guided r (suc n) → odd-x r && odd-z r ≡ false → odd-z (past-H r) ≡ false
-unfolding past-H record-without-H vector-without-H
+unfolding past-H vector-without-H
 past-H-parity {r} g apart = by (odd-y r && odd-z r) refl
   where
     x-even : (p q s : Bool) → q && s ≡ true → p && s ≡ false → p ≡ false
@@ -95,7 +95,7 @@ past-H-parity {r} g apart = by (odd-y r && odd-z r) refl
 
 -- T, or nothing: the exponent falls
 pub past-T-guided : {r : Rest} {n : ℕ} → Guided r (suc n) → odd-z r ≡ false → Guided (past-T r) n
-unfolding past-T vector-lowered
+unfolding past-T
 past-T-guided {r} {n} g z = by (odd-x r) (odd-y r) refl refl (ap (λ (b : Bool). differ (odd-x r) (differ (odd-y r) b)) (sym z) ∙ odd-pairs (norm-of-guided g))
   where
     taken : odd-x r ≡ true → odd-y r ≡ true → Guided (without-T r) n
@@ -154,7 +154,6 @@ unfolding gate
 X-restores r = restores-letter X (without-X r .matrix) (r .matrix) (same-of-equal (X-restored r))
 
 pub lowered-restores : (r : Rest) → Restores [] (lowered r .matrix) (r .matrix)
-unfolding vector-lowered
 lowered-restores r = restores-nothing (r .matrix)
 
 -- a letter where it is taken, or nothing

@@ -134,12 +134,12 @@ real-negated r = refl
 
 -- ---- S
 pub S-restored : (r : Rest) → times gate-S (without-S r .matrix) ≡ r .matrix
-unfolding gate-S record-without-S vector-without-S
+unfolding gate-S record-without-S
 S-restored r =
     phase-restored (negation omega2) omega2 omega2-unit (λ (x : Element). turned-back (turned-back x)) back-twice-product conjugate-back-twice (r .matrix)
 
 pub S-isometry : (r : Rest) → Isometry (r .matrix) → Isometry (without-S r .matrix)
-unfolding record-without-S vector-without-S
+unfolding record-without-S
 S-isometry r i =
     phase-isometry (negation omega2) omega2 omega2-unit (λ (x : Element). turned-back (turned-back x)) back-twice-product conjugate-back-twice {m = r .matrix} i
 
@@ -169,7 +169,7 @@ lower-of : (x y : Element) → sum (product nothing x) (product one y) ≡ y
 lower-of x y = solve elements (x ∷ y ∷ []) (con (pos 0) ⊗ var 0 ⊕ con (pos 1) ⊗ var 1) (var 1) tt
 
 pub X-restored : (r : Rest) → times gate-X (without-X r .matrix) ≡ r .matrix
-unfolding times gate-X record-without-X vector-without-X
+unfolding times gate-X record-without-X
 X-restored r =
     let m = r .matrix in
     equal-entries (zero-add (m .exponent))
@@ -180,7 +180,7 @@ sum-swap : (x y : Element) → sum x y ≡ sum y x
 sum-swap x y = solve elements (x ∷ y ∷ []) (var 0 ⊕ var 1) (var 1 ⊕ var 0) tt
 
 pub X-isometry : (r : Rest) → Isometry (r .matrix) → Isometry (without-X r .matrix)
-unfolding record-without-X vector-without-X
+unfolding record-without-X
 X-isometry r i =
     let m = r .matrix in
     let a = m .top .left in
@@ -219,7 +219,7 @@ unfolding root2-power
 two-more k l e = ap root2-power e
 
 pub H-restored : (r : Rest) → Same (times gate-H (without-H r .matrix)) (r .matrix)
-unfolding times gate-H record-without-H vector-without-H Equal-over
+unfolding times gate-H record-without-H Equal-over
 H-restored r =
     let m = r .matrix in
     record {
@@ -260,7 +260,7 @@ H-across x y u v =
     (var 4 ⊗ (var 4 ⊗ (var 0 ⊗ var 2 ⊕ var 1 ⊗ var 3))) tt
 
 pub H-isometry : (r : Rest) → Isometry (r .matrix) → Isometry (without-H r .matrix)
-unfolding record-without-H vector-without-H
+unfolding record-without-H
 H-isometry r i =
     let m = r .matrix in
     let a = m .top .left in

@@ -173,28 +173,23 @@ some-phase (suc k) u s =
     )
 
 -- ---- the signs of the coefficients tell the power
-positive-sign : (n : ℕ) → by-sign (pos (suc n)) ≡ (λ above below at. above)
+positive-sign : (n above below at : ℕ) → by-sign (pos (suc n)) above below at ≡ above
 unfolding by-sign
-positive-sign n = λ i above below at. cond (is-above i) above (cond (ltZ (pos (suc n)) (pos 0)) below at)
-  where
-    is-above : ltZ (pos 0) (pos (suc n)) ≡ true
-    is-above = leb·suc-suc 0 n ∙ leb·zero n
+positive-sign n above below at =
+    ap (λ (t : Bool). cond t above (cond (ltZ (pos (suc n)) (pos 0)) below at)) (leb·suc-suc 0 n ∙ leb·zero n)
 
 -- a number's double has its sign
-double-sign : (z : ℤ) → by-sign (z +ℤ z) ≡ by-sign z
+double-sign : (z : ℤ) (above below at : ℕ) → by-sign (z +ℤ z) above below at ≡ by-sign z above below at
 unfolding by-sign
-double-sign (pos zero) = refl
-double-sign (pos (suc n)) = ap (λ (m : ℕ). by-sign (pos m)) (suc-add n (suc n)) ∙ positive-sign (n + suc n) ∙ sym (positive-sign n)
-double-sign (negsuc n) = refl
+double-sign (pos zero) above below at = refl
+double-sign (pos (suc n)) above below at =
+    ap (λ (m : ℕ). by-sign (pos m) above below at) (suc-add n (suc n)) ∙ positive-sign (n + suc n) above below at
+    ∙ sym (positive-sign n above below at)
+double-sign (negsuc n) above below at = refl
 
 double-phase : (x : Element) → phase (sum x x) ≡ phase x
 unfolding phase sum
-double-phase x = λ i.
-    let s0 = double-sign (x .a0) i in
-    let s1 = double-sign (x .a1) i in
-    let s2 = double-sign (x .a2) i in
-    let s3 = double-sign (x .a3) i in
-    s0 (s2 1 7 0) (s2 3 5 4) (s2 2 6 (s1 (s3 2 0 1) (s3 4 6 5) (s3 3 7 0)))
+double-phase x = simp double-sign
 
 -- at k = 0 and at k = 1, of each of the eight powers
 whole-phase : (j : ℕ) → j < 8 → phase (product (root2-power 0) (omega-power j)) ≡ j

@@ -149,11 +149,13 @@ phase x =
     (by-sign (x .a2) 2 6
     (by-sign (x .a1) (by-sign (x .a3) 2 0 1) (by-sign (x .a3) 4 6 5) (by-sign (x .a3) 3 7 0)))
 
+-- from ω^j on to ω^l
+abbrev pub turn : ℕ → ℕ → ℕ
+turn j l = (l + 8 - j) % 8
+
 -- diag(ω^j, ω^l) is T or nothing, S at most three times, W at most seven times
 unfoldable pub phases-text : ℕ → ℕ → List ℕ
-phases-text j l =
-    let turn = (l + 8 - j) % 8 in
-    replicate (turn % 2) T ++ (replicate (turn / 2) S ++ replicate j W)
+phases-text j l = replicate (turn j l % 2) T ++ (replicate (turn j l / 2) S ++ replicate j W)
 
 unfoldable pub diagonal-text : Matrix → List ℕ
 diagonal-text m = phases-text (phase (m .top .left)) (phase (m .bottom .right))

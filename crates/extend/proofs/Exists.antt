@@ -1,6 +1,6 @@
 -- Every letter list has a form, with no more T's than the list, whatever its length; and a form's length is bounded by
 -- its T's, so n letters give at most 3n + 13 bytes. Assumes nothing.
-use Prim.Native.Nat.{ℕ, zero, suc, _+_, _*_, _/_, _≤_, _<_}
+use Prim.Native.Nat.{ℕ, zero, suc, _+_, _*_, _≤_, _<_}
 use native.Mathlib.Omega.{arith}
 use mathlib.Core.Bool.{Bool, true, false}
 use mathlib.Core.List.{List, [], _∷_, _++_}
@@ -12,12 +12,12 @@ use Rattle.matrix.specs.Letter.{T, Letters, none, more, is-letter}
 use Rattle.form.specs.Tail.{tails, tail-h, head-text, tail-text}
 use Rattle.form.specs.Form.{Form, Form-of}
 use Rattle.form.specs.Count.{t-count}
-use Rattle.form.proofs.Count.{form-is-short}
+use Rattle.form.proofs.Count.{t-count-within, form-is-short}
 use Rattle.tail.proofs.Columns.{has-column}
 use Rattle.tail.proofs.Closure.{product-is-tail}
 use Rattle.tail.proofs.Passing.{passed, joined, passed-T, joined-T}
 use Rattle.extend.specs.State.{Codes, no-codes, front, HT-above, SHT-above, codes-text, Extends}
-use Rattle.extend.proofs.Spelling.{codes-form, t-count-within}
+use Rattle.extend.proofs.Spelling.{codes-form}
 use Rattle.extend.proofs.Step.{tail-multiplied, code-pushed, code-popped, extends-none, extends-more}
 
 -- codes and a tail that extend others by a letter

@@ -1,19 +1,17 @@
 -- What codes and a tail spell is a form, with a T for each code and a syllable for each code but the front's T.
 -- Assumes nothing.
-use Prim.Native.Nat.{ℕ, zero, suc, _+_, _*_, _/_, _%_, _≤_, _<_}
-use native.Mathlib.Nat.{add-zero}
+use Prim.Native.Nat.{ℕ, zero, suc, _+_, _*_, _<_}
 use native.Mathlib.Omega.{arith}
-use mathlib.Core.Bool.{Bool, true, false, cond}
+use mathlib.Core.Bool.{Bool, true, false}
 use mathlib.Core.List.{List, [], _∷_, _++_, append-assoc, append-nil}
 use mathlib.Core.Path.{_≡_, refl, sym, ap, _∙_}
-use lib.Dec.{eqb}
-use lib.ListN.{length, length-append, replicate}
-use Rattle.matrix.specs.Letter.{H, S, T, W, X}
+use lib.ListN.{length, length-append}
+use Rattle.matrix.specs.Letter.{T}
 use Rattle.form.specs.Tail.{tails, tail-h, tail-b, tail-c, tail-a, head-text, tail-text}
 use Rattle.form.specs.Form.{Syllable, HT, SHT, Parts, Form, syllable-text, syllables-text, front-text, form-text}
 use Rattle.form.specs.Count.{t-count, h-count}
 use Rattle.form.proofs.Count.{t-count-append, t-count-head, t-count-tail, syllables-are-counted}
-use Rattle.extend.specs.State.{Codes, no-codes, front, HT-above, SHT-above, codes-text, used}
+use Rattle.extend.specs.State.{Codes, no-codes, front, HT-above, SHT-above, codes-text}
 
 -- the number of the syllables among codes
 unfoldable pub syllable-count : List ℕ → ℕ
@@ -97,13 +95,3 @@ headed-tail h n headless =
     let at-c : tail-c (64 * h + n) ≡ tail-c n = omega arith in
     let at-a : tail-a (64 * h + n) ≡ tail-a n = omega arith in
     simp (at-h, at-b, at-c, at-a, headless)
-
--- the T's of a text are among its bytes
-counted-one : (t : Bool) (k l : ℕ) → k ≤ l → cond t (suc k) k ≤ suc l
-counted-one true k l h = omega arith
-counted-one false k l h = omega arith
-
-pub t-count-within : (w : List ℕ) → t-count w ≤ length w
-unfolding t-count
-t-count-within [] = omega arith
-t-count-within (b ∷ w) = counted-one (eqb b T) (t-count w) (length w) (t-count-within w)

@@ -1,23 +1,23 @@
 -- Codes in an array: a code stored just past those in use is the last one then, and the codes below it stay; and what the
 -- step does to the array and the state extends the form that they spell. Assumes nothing.
-use Prim.Native.Nat.{ℕ, zero, suc, _+_, _*_, _-_, _/_, _≤_, _<_}
+use Prim.Native.Nat.{ℕ, zero, suc, _+_, _*_, _-_, _≤_, _<_}
 use native.Mathlib.Numerals.{add-one, sub-one}
 use native.Mathlib.Nat.{lt-irrefl}
 use native.Mathlib.Omega.{arith}
-use mathlib.Core.List.{List, [], _∷_, _++_}
+use mathlib.Core.List.{List, [], _∷_}
 use mathlib.Core.Path.{_≡_, refl, sym, ap, ap₂, subst, _∙_}
 use lib.Dec.{lit<}
 use lib.ListN.{length, take, getD, set, length-take, length-set}
 use lib.Seq.{take-suc, getD-set-same, getD-set-other}
 use Rattle.matrix.specs.Letter.{T}
-use Rattle.form.specs.Tail.{tails, tail-h, head-text, tail-text}
+use Rattle.form.specs.Tail.{tail-h, head-text, tail-text}
 use Rattle.form.specs.Form.{Form}
 use Rattle.form.specs.Count.{t-count}
-use Rattle.form.proofs.Count.{t-count-append}
+use Rattle.form.proofs.Count.{t-count-append, t-count-within}
 use Rattle.tail.specs.Product.{Product, Past-T, Between-T}
 use Rattle.extend.specs.declared.State.{State}
-use Rattle.extend.specs.State.{Codes, no-codes, front, HT-above, SHT-above, codes-text, used, state-text, Fresh, Spells, Extends, Extended}
-use Rattle.extend.proofs.Spelling.{codes-form, t-count-spelled, t-count-within}
+use Rattle.extend.specs.State.{Codes, no-codes, front, HT-above, SHT-above, codes-text, used, state-text, Fresh, Spells, Extended}
+use Rattle.extend.proofs.Spelling.{codes-form, t-count-spelled}
 use Rattle.extend.proofs.Step.{tail-multiplied, code-pushed, code-popped, extends-more}
 
 -- the codes in use are as many as the count says
@@ -66,7 +66,7 @@ unfolding state-text
 t-count-state stack state = t-count-spelled (used stack (state .count)) (state .tail) ∙ length-used stack (state .count)
 
 -- the codes grow by no more than the letters
-count-within :
+pub count-within :
     {stack w stack' : List ℕ} {state state' : State} → Extended stack state w stack' state' → state' .count ≤ state .count + length w
 count-within {stack} {w} {stack'} {state} {state'} e =
     omega (

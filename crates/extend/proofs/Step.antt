@@ -1,14 +1,14 @@
 -- One letter more on codes and a tail: a letter other than T changes the tail; T is pushed with the tail's head, or meets
 -- the T of the last code. In each case the text is extended by the letter. Assumes nothing.
-use Prim.Native.Nat.{ℕ, suc, _+_, _*_, _≤_, _<_}
+use Prim.Native.Nat.{ℕ, _+_, _*_, _≤_}
 use native.Mathlib.Omega.{arith}
 use mathlib.Core.List.{List, [], _∷_, _++_, append-assoc, append-nil}
-use mathlib.Core.Path.{_≡_, refl, sym, ap, subst₂, _∙_}
+use mathlib.Core.Path.{_≡_, refl, sym, ap, subst₂}
 use lib.ListN.{length}
 use Rattle.matrix.specs.Matrix.{Same}
 use Rattle.matrix.specs.Letter.{T, matrix-of}
 use Rattle.matrix.proofs.Same.{same-refl, same-trans}
-use Rattle.form.specs.Tail.{tails, tail-h, head-text, tail-text}
+use Rattle.form.specs.Tail.{tail-h, head-text, tail-text}
 use Rattle.form.specs.Count.{t-count}
 use Rattle.form.proofs.Count.{t-count-append}
 use Rattle.tail.specs.Product.{Product, Past-T, Between-T}

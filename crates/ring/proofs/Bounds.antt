@@ -4,9 +4,9 @@
 use mathlib.Core.Path.{_≡_, refl, sym, _∙_, ap, ap₂, subst}
 use mathlib.Core.Bool.{Bool, true, false, cond}
 use Prim.Native.Nat.{ℕ, zero, suc, _+_, _-_, _*_, _^_, _≤_, _<_}
-use native.Mathlib.Nat.{le-trans, mul-le-mul, lt-of-le-of-lt}
+use native.Mathlib.Nat.{le-trans, mul-le-mul}
 use native.Mathlib.Omega.{arith}
-use borrow.Author.Tests.{ltb-true, ltb-false}
+use borrow.Author.Tests.{ltb-true}
 use lib.Dec.{ltb, lit<}
 use lib.IntN.{ℤ, pos, negsuc, _+ℤ_, _-ℤ_, _*ℤ_, negℤ, natAbs, subℕ, +ℤ-idl}
 use lib.Signed.{mag}
@@ -140,10 +140,17 @@ exact-stored f i = keeps (exact f i) (value-fits f i)
 pub fits : (f : Formula) → Inside f → SFits w64 (machine f)
 fits f i = subst (SFits w64) (sym (exact f i)) (value-fits f i)
 
+-- numbers that fit are equal where their bits are
+pub same-bits : {x y : ℤ} → SFits w64 x → SFits w64 y → ofZ w64 x ≡ ofZ w64 y → x ≡ y
+same-bits f g e = sym (toZ-ofZ f) ∙ ap (toZ w64) e ∙ toZ-ofZ g
+
 -- ---- the operations of the ring's code: sums and changes of sign at 2^61
 module _ {x y : ℤ} (h : Bounded (2 ^ 61) x) (k : Bounded (2 ^ 61) y) where
   pub sum-fits : SFits w64 (stored x +ℤ stored y)
   sum-fits = fits (known h ⊞ known k) (lit< tt, lit< tt, lit< tt)
+
+  pub sum-value : stored x +ℤ stored y ≡ x +ℤ y
+  sum-value = exact (known h ⊞ known k) (lit< tt, lit< tt, lit< tt)
 
   pub sum-exact : stored (stored x +ℤ stored y) ≡ x +ℤ y
   sum-exact = exact-stored (known h ⊞ known k) (lit< tt, lit< tt, lit< tt)

@@ -155,7 +155,7 @@ impl Element {
     }
 }
 
-fn odd(n: i64) -> bool
+pub fn odd(n: i64) -> bool
     ensures { λ r. ⌜ r ≡ odd n ⌝ }
 {
     n % 2 != 0

@@ -6,12 +6,12 @@ use mathlib.Core.List.{List, [], _∷_}
 use Prim.Native.Nat.{ℕ, _+_}
 use native.Mathlib.Nat.{add-zero}
 use lib.Dec.{eqb}
-use lib.IntN.{pos, negsuc}
+use lib.IntN.{pos}
 use Rattle.whole.proofs.Solver.{var, con, _⊕_, _⊗_, ⊖_, solve}
 use Rattle.ring.specs.declared.Element.{Element}
 use Rattle.ring.specs.Element.{nothing, one, omega, omega2, sum, negation, multiple, turned, product}
 use Rattle.ring.proofs.Ring.{elements, product-one}
-use Rattle.ring.proofs.Formal.{formal, _*ᶠ_, -ᶠ_, turnedᶠ, xᶠ, coefficients, coefficientwise}
+use Rattle.ring.proofs.Formal.{formal, _*ᶠ_, turnedᶠ, xᶠ, coefficients, coefficientwise}
 use Rattle.matrix.specs.declared.Matrix.{Matrix}
 use Rattle.matrix.specs.Matrix.{matrix, identity, times}
 use Rattle.matrix.specs.Letter.{H, S, T, W, X, Y, Z, gate-H, gate-S, gate-T, gate-W, gate-X, gate-Y, gate-Z, gate, matrix-of}

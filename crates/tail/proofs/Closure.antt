@@ -1,16 +1,15 @@
 -- Each product of a tail with one of the six letters other than T is a tail, told by its fields: one test over the 192
 -- tails and the six letters. Assumes nothing.
-use mathlib.Core.Path.{_≡_, refl, subst, sym}
-use mathlib.Core.Bool.{Bool, true, false}
 use mathlib.Core.List.{List, [], _∷_}
 use Prim.Native.Nat.{ℕ, zero, suc, _+_, _*_, _-_, _/_, _%_, _<_}
 use native.Mathlib.Omega.{arith}
 use lib.Dec.{T as Holds}
 use lib.ListN.{length, getD}
 use Rattle.form.specs.Tail.{tails, tail-h, tail-b, tail-c, tail-a}
+use Rattle.form.proofs.Every.{every, every-at}
 use Rattle.form.proofs.Grammar.{tail-number}
 use Rattle.tail.specs.Product.{six-letters, Product}
-use Rattle.tail.proofs.Table.{every-below, below-at, entry-test, product-at}
+use Rattle.tail.proofs.Table.{entry-test, product-at}
 
 -- the products with H of the tails that have no W, in order; W passes H
 H-products : List ℕ
@@ -27,12 +26,12 @@ product-number n (suc (suc (suc (suc zero)))) =
     tail-number (tail-h n) (1 - tail-b n) ((3 * tail-c n + 2) % 4) ((tail-a n + 2 * tail-c n + 2) % 8)
 product-number n (suc (suc (suc (suc (suc l))))) = tail-number (tail-h n) (tail-b n) ((tail-c n + 2) % 4) (tail-a n)
 
-all-products : Holds (every-below (λ k. entry-test k (product-number (k / 6) (k % 6))) 1152)
-unfolding every-below entry-test product-number H-products
+all-products : Holds (every (6 * tails) (λ k. entry-test k (product-number (k / 6) (k % 6))))
+unfolding every entry-test product-number H-products
 all-products = tt
 
 -- "Multiplying a tail on its right by one of the six letters other than T gives a tail"
 pub product-is-tail : (n l : ℕ) → n < tails → l < length six-letters → (m : ℕ) × Product n (getD six-letters l 0) m
 product-is-tail n l n< l< =
     let m = product-number ((6 * n + l) / 6) ((6 * n + l) % 6) in
-    (m, product-at n l m l< (below-at (λ (k : ℕ). entry-test k (product-number (k / 6) (k % 6))) 1152 all-products (6 * n + l) (omega arith)))
+    (m, product-at n l m l< (every-at (6 * tails) (λ (k : ℕ). entry-test k (product-number (k / 6) (k % 6))) all-products (6 * n + l) (omega arith)))

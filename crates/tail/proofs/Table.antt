@@ -1,13 +1,13 @@
 -- The rule of the table of products, and of any other: a test that antt computes over all entries, one after the other,
 -- holds at each of them. Assumes nothing.
 use mathlib.Core.Path.{_≡_, _∙_, subst, subst₂, sym}
-use mathlib.Core.Bool.{Bool, true, false, _&&_}
+use mathlib.Core.Bool.{Bool, true, _&&_}
 use mathlib.Core.List.{List, [], _∷_, _++_}
 use Prim.Native.Nat.{ℕ, zero, suc, _+_, _*_, _/_, _%_, _<_}
 use native.Mathlib.Nat.{add-zero, zero-add, add-suc, suc-add, le-of-suc-le-suc, not-suc-le-zero}
 use native.Mathlib.Omega.{arith}
 use lib.Dec.{T as Holds, ltb, ltb→lt}
-use lib.ListN.{length, getD, replicate, length-replicate}
+use lib.ListN.{length, getD}
 use Rattle.form.specs.Tail.{tails, head-text, tail-text}
 use Rattle.tail.specs.Product.{six-letters, Product, Product-table}
 use Rattle.matrix.proofs.Test.{both}
@@ -28,15 +28,6 @@ from f (x ∷ xs) i t (suc k) h =
 
 at : (f : ℕ → ℕ → Bool) (xs : List ℕ) → Holds (every f 0 xs) → (k : ℕ) → k < length xs → Holds (f k (getD xs k 0))
 at f xs t k h = subst (λ (m : ℕ). Holds (f m (getD xs k 0))) (zero-add k) (from f xs 0 t k h)
-
--- the test f passes at each number below n
-unfoldable pub every-below : (ℕ → Bool) → ℕ → Bool
-unfolding every
-every-below f n = every (λ k x. f k) 0 (replicate n 0)
-
-pub below-at : (f : ℕ → Bool) (n : ℕ) → Holds (every-below f n) → (k : ℕ) → k < n → Holds (f k)
-unfolding every-below
-below-at f n t k h = at (λ (j x : ℕ). f j) (replicate n 0) t k (subst (λ (m : ℕ). k < m) (sym (length-replicate n 0)) h)
 
 -- m is the product of the tail n with the letter of column l
 product-test : ℕ → ℕ → ℕ → Bool
@@ -66,7 +57,7 @@ product-at n l m l< h =
     product-by-test n l m (subst₂ (λ (i j : ℕ). Holds (product-test i j m)) row column h)
 
 -- "its rule (same matrix, phase included) is shown once over all of it"
-pub table-by-test : (table : List ℕ) → length table ≡ 1152 → Holds (every entry-test 0 table) → Product-table table
+pub table-by-test : (table : List ℕ) → length table ≡ 6 * tails → Holds (every entry-test 0 table) → Product-table table
 table-by-test table size h =
     record {
       product = λ n l n< l<.

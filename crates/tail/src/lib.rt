@@ -6,8 +6,9 @@ ghost use Rattle.matrix.specs.Letter.{T, is-letter};
 ghost use Rattle.form.specs.Tail.{tails, tail-h};
 ghost use Rattle.tail.specs.Product.{Column, Product, Product-table, Past-T, Between-T};
 
+// Entry 6·n + l: the tail n times the letter l of H S W X Y Z.
 const PRODUCTS: [u8; 1152] = [
-    64,
+    64, // the empty tail times H is H
     8,
     1,
     32,

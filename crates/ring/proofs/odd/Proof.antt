@@ -1,5 +1,4 @@
 -- `ring::odd` meets its contract. Assumes nothing.
-use borrow.Author.Needs.{sfits-of}
 use Rattle.ring.proofs.Halving.{half-fits, odd-exact}
 use Rattle.ring.proofs.odd.Statement.{statement}
 use Rattle.ring.proofs.odd.Tie as tie

@@ -1,5 +1,6 @@
 -- `tail::column` meets its contract: H and S have columns of their own, and W, X, Y and Z stand in a row. Assumes nothing.
 use Prim.Native.Nat.{_-_, _≤_}
+use native.Mathlib.Omega.{arith}
 use borrow.Author.Needs.{needs}
 use Rattle.tail.specs.Product.{Column}
 use Rattle.tail.proofs.Columns.{in-a-row}
@@ -16,7 +17,7 @@ row : (c : tie.Else2) → (85 ≤ c .before .before .args .letter) × Column (c 
 row c = in-a-row (c .before .before .args .letter) (c .before .before .pre .0) (c .before .before .pre .1) (c .before .if1 .left) (c .if2 .left)
 
 sub-result : tie.Need-sub-result
-sub-result c = row c .0
+sub-result c = omega (arith, row c .0)
 
 returns-3 : tie.Need-returns-3
 returns-3 c = row c .1

@@ -1,7 +1,7 @@
 -- `ring::Element::divides_by_root2` meets its contract: √2 divides an element exactly when its pairs of coefficients agree
 -- in parity. Assumes nothing.
 use mathlib.Core.Path.{_≡_, refl, sym, _∙_, ap}
-use mathlib.Core.Bool.{Bool, true, false, not, Bool·beq, true≢false, false≢true}
+use mathlib.Core.Bool.{Bool, true, false, Bool·beq, true≢false, false≢true}
 use borrow.Author.Needs.{needs, sfits-of}
 use borrow.Author.Tests.{not-true, not-false}
 use lib.IntN.{ℤ}

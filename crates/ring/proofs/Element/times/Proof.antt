@@ -1,7 +1,7 @@
 -- `ring::Element::times` meets its contract: turning keeps the bound on the other factor, so each multiple has
 -- coefficients up to 2^60 and each sum of two up to 2^61. Assumes nothing.
-use mathlib.Core.Path.{_≡_, sym, _∙_, ap, ap₂, subst}
-use Prim.Native.Nat.{_^_, _≤_}
+use mathlib.Core.Path.{_≡_, sym, _∙_, ap, subst}
+use Prim.Native.Nat.{_^_}
 use lib.Dec.{lit≤}
 use lib.IntN.{ℤ}
 use Rattle.ring.specs.declared.Element.{Element}

@@ -1,0 +1,79 @@
+-- `accept::first_wide` meets its contract. The loop's invariant: none before `i` is wide. The measure is what is left of
+-- the list. Assumes nothing.
+use Prim.Native.Nat.{_+_, _≤_, _-_}
+use native.Mathlib.Numerals.{add-one}
+use native.Mathlib.Omega.{arith}
+use mathlib.Core.Path.{_≡_, sym, _∙_, ap}
+use borrow.Author.Needs.{needs, sfits-of}
+use borrow.Author.Tests.{not-true, not-false}
+use lib.IntN.{pos}
+use lib.ListN.{length, getD, drop}
+use mir.Facts.{toZ-ofZ}
+use Rattle.accept.specs.Accept.{in-limit}
+use Rattle.accept.specs.Wide.{first-wide}
+use Rattle.accept.proofs.Limits.{first-wide-at, first-wide-past, first-wide-end}
+use Rattle.accept.proofs.first_wide.Statement.{statement}
+use Rattle.accept.proofs.first_wide.Tie as tie
+
+abbrev Inv-loop : tie.InvT-loop
+Inv-loop list i₀ i = (i ≤ length list) × (first-wide list ≡ i + first-wide (drop i list))
+
+abbrev μ-loop : tie.MeasureT-loop
+μ-loop list i₀ i = length list - i
+
+loop-holds : tie.Need-loop-holds Inv-loop μ-loop
+loop-holds c = (search needs, omega arith)
+
+mul-in-limit : tie.Need-mul-in-limit Inv-loop μ-loop
+mul-in-limit c = search needs
+
+shared-slice-copy-out-in-limit : tie.Need-shared-slice-copy-out-in-limit Inv-loop μ-loop
+shared-slice-copy-out-in-limit c = search needs
+
+in-limit-requires : tie.Need-in-limit-requires Inv-loop μ-loop
+in-limit-requires c κs = tt
+
+-- the test at the loop's place, of the number that stands there
+tested : (c : tie.After-in-limit Inv-loop μ-loop) →
+    c .in-limit .result ≡ in-limit (getD (c .before .before .before .before .args .list .now) (c .before .before .before .loop .i) (pos 0))
+tested c = c .in-limit .ensures ∙ ap in-limit (toZ-ofZ (search sfits-of))
+
+returns : tie.Need-returns Inv-loop μ-loop
+returns c =
+    let t = c .before .before .before in
+    let e = sym (tested (c .before)) ∙ not-true _ (c .if1 .taken) in
+    omega (arith, first-wide-at (t .before .before .args .list .now) (t .before .loop .i) (t .loop-test .taken) e)
+
+add-i : tie.Need-add-i Inv-loop μ-loop
+add-i c = search needs
+
+loop-less : tie.Need-loop-less Inv-loop μ-loop
+loop-less c = search needs
+
+loop-again : tie.Need-loop-again Inv-loop μ-loop
+loop-again c =
+    let t = c .before .before .before in
+    let e = sym (tested (c .before)) ∙ not-false _ (c .if1 .left) in (
+      search needs,
+      rw add-one
+          (omega (arith, first-wide-past (t .before .before .args .list .now) (t .before .loop .i) (t .loop-test .taken) e)),
+    )
+
+returns-2 : tie.Need-returns-2 Inv-loop μ-loop
+returns-2 c = omega (arith, first-wide-end (c .before .before .args .list .now) (c .before .loop .i) (c .loop-test .left))
+
+pub first-wide-spec : {M : Type 1} → statement M
+first-wide-spec =
+    tie.close
+    (tie.spec
+    Inv-loop
+    μ-loop
+    loop-holds
+    mul-in-limit
+    shared-slice-copy-out-in-limit
+    in-limit-requires
+    returns
+    add-i
+    loop-less
+    loop-again
+    returns-2)

@@ -1,0 +1,3 @@
+pub mod Accept
+pub mod Wide
+pub mod Column

@@ -1,0 +1,170 @@
+// Which matrix records are accepted: the limits on the exponent and the coefficients, and the test for unitary.
+use answer::COEFFICIENT_LIMIT;
+use answer::EXPONENT_LIMIT;
+use answer::Refusal;
+use matrix::Matrix;
+use ring::Element;
+ghost use Prim.Native.Nat.{_≤_, _^_};
+ghost use mathlib.Core.Bool.{true};
+ghost use mathlib.Core.Logic.{_↔_};
+ghost use mathlib.Core.Path.{_≡_};
+ghost use lib.IntN.{pos};
+ghost use Rattle.ring.specs.Element.{nothing, size-whole, size-root2};
+ghost use Rattle.ring.specs.Bounds.{Small};
+ghost use Rattle.matrix.specs.Matrix.{Unitary};
+ghost use Rattle.answer.specs.Limits.{exponent-limit, coefficient-limit};
+ghost use Rattle.accept.specs.Accept.{coefficients, in-limit, Inside, Judged};
+ghost use Rattle.accept.specs.Wide.{first-wide};
+ghost use Rattle.accept.specs.Column.{Unit-column, column-product};
+
+// What is judged of a record.
+pub enum Judgement {
+    Accepted,
+    Refused(Refusal),
+}
+
+// The sixteen coefficients, each at its index.
+pub fn coefficients(m: Matrix) -> [i64; 16]
+    ensures { λ r. ⌜ r ≡ coefficients m ⌝ }
+{
+    let a = m.top.left;
+    let b = m.top.right;
+    let c = m.bottom.left;
+    let d = m.bottom.right;
+    [
+        a.a0,
+        a.a1,
+        a.a2,
+        a.a3,
+        b.a0,
+        b.a1,
+        b.a2,
+        b.a3,
+        c.a0,
+        c.a1,
+        c.a2,
+        c.a3,
+        d.a0,
+        d.a1,
+        d.a2,
+        d.a3,
+    ]
+}
+
+fn in_limit(n: i64) -> bool
+    ensures { λ r. ⌜ r ≡ in-limit n ⌝ }
+{
+    if n < -COEFFICIENT_LIMIT {
+        return false;
+    }
+    n <= COEFFICIENT_LIMIT
+}
+
+// The index of the first coefficient beyond its limit, or how many there are.
+fn first_wide(list: &[i64]) -> usize
+    ensures { λ r. ⌜ r ≡ first-wide (now (list .entry)) ⌝ }
+{
+    let mut i = 0;
+    while i < list.len() {
+        if !in_limit(list[i]) {
+            return i;
+        }
+        i += 1;
+    }
+    i
+}
+
+// The whole part and the √2 part of the squared size of an element.
+fn size_whole(x: Element) -> i64
+    requires { ⌜ Small coefficient-limit x ⌝ }
+    ensures { λ r. ⌜ r ≡ size-whole x ⌝ }
+{
+    x.a0 * x.a0 + x.a1 * x.a1 + x.a2 * x.a2 + x.a3 * x.a3
+}
+
+fn size_root2(x: Element) -> i64
+    requires { ⌜ Small coefficient-limit x ⌝ }
+    ensures { λ r. ⌜ r ≡ size-root2 x ⌝ }
+{
+    x.a0 * x.a1 + x.a1 * x.a2 + x.a2 * x.a3 - x.a3 * x.a0
+}
+
+// 2^k
+fn power(k: u32) -> i64
+    requires { ⌜ k ≤ exponent-limit ⌝ }
+    ensures { λ r. ⌜ r ≡ pos (2 ^ k) ⌝ }
+{
+    let p: u64 = 1 << k;
+    p as i64
+}
+
+// Whether a column's squared sizes sum to 2^k with no √2 part.
+fn is_unit(top: Element, bottom: Element, power: i64) -> bool
+    requires { ⌜ Small coefficient-limit top ⌝ }
+    requires { ⌜ Small coefficient-limit bottom ⌝ }
+    ensures { λ r. ⌜ (r ≡ true ↔ Unit-column top bottom power) ⌝ }
+{
+    if size_whole(top) + size_whole(bottom) != power {
+        return false;
+    }
+    size_root2(top) + size_root2(bottom) == 0
+}
+
+// The left column times the conjugate of the right.
+fn column_product(m: Matrix) -> Element
+    requires { ⌜ Inside m ⌝ }
+    ensures { λ r. ⌜ r ≡ column-product m ⌝ }
+{
+    let top = m.top.left.times(m.top.right.conjugated());
+    let bottom = m.bottom.left.times(m.bottom.right.conjugated());
+    top.plus(bottom)
+}
+
+fn is_nothing(x: Element) -> bool
+    ensures { λ r. ⌜ (r ≡ true ↔ x ≡ nothing) ⌝ }
+{
+    if x.a0 != 0 {
+        return false;
+    }
+    if x.a1 != 0 {
+        return false;
+    }
+    if x.a2 != 0 {
+        return false;
+    }
+    x.a3 == 0
+}
+
+// The eight equations.
+fn is_unitary(m: Matrix) -> bool
+    requires { ⌜ Inside m ⌝ }
+    ensures { λ r. ⌜ (r ≡ true ↔ Unitary m) ⌝ }
+{
+    let two_to_k = power(m.exponent);
+    if !is_unit(m.top.left, m.bottom.left, two_to_k) {
+        return false;
+    }
+    if !is_unit(m.top.right, m.bottom.right, two_to_k) {
+        return false;
+    }
+    is_nothing(column_product(m))
+}
+
+// The limits in their order, and then the test for unitary.
+pub fn judge(m: Matrix) -> Judgement
+    ensures { λ r. ⌜ Judged m r ⌝ }
+{
+    if EXPONENT_LIMIT < m.exponent {
+        return Judgement::Refused(Refusal::HighExponent);
+    }
+    let list = coefficients(m);
+    let index = first_wide(&list);
+    if index < list.len() {
+        return Judgement::Refused(Refusal::WideCoefficient { index });
+    }
+    if is_unitary(m) {
+        Judgement::Accepted
+    } else {
+        Judgement::Refused(Refusal::NotUnitary)
+    }
+}

@@ -1,0 +1,80 @@
+-- Two states as they are compared: codes in use agree where they agree at each place, and the forms that two states spell are
+-- apart by ω^j exactly when their codes agree and the first tail is the second with j W's more. Assumes nothing.
+use Prim.Native.Nat.{ℕ, zero, suc, _+_, _≤_, _<_}
+use native.Mathlib.Nat.{eq-or-lt-of-le, le-of-suc-le-suc}
+use native.Mathlib.Numerals.{add-one}
+use native.Mathlib.Omega.{arith}
+use mathlib.Core.List.{List, _∷_, _++_, head-eq-of-cons-eq, tail-eq-of-cons-eq}
+use mathlib.Core.Logic.{⊎-elim}
+use mathlib.Core.Path.{_≡_, sym, ap, ap₂, subst, _∙_}
+use lib.ListN.{length, getD}
+use Rattle.matrix.specs.Matrix.{Same}
+use Rattle.matrix.specs.Letter.{matrix-of}
+use Rattle.matrix.proofs.Same.{same-of-equal}
+use Rattle.form.specs.Tail.{tail-text}
+use Rattle.form.proofs.Count.{t-count-tail}
+use Rattle.form.proofs.Grammar.{tails-distinct}
+use Rattle.extend.specs.declared.State.{State}
+use Rattle.extend.specs.State.{codes-text, used, state-text, Spells}
+use Rattle.extend.proofs.Spelling.{codes-form}
+use Rattle.extend.proofs.Stack.{length-used}
+use Rattle.unique.proofs.Unique.{forms-are-unique}
+use Rattle.compare.specs.Compare.{same, phase, different, Phase-apart, Related, equal, apart, unlike}
+use Rattle.compare.proofs.Phase.{with-Ws, with-Ws-in-tails, phased-text}
+use Rattle.compare.proofs.Spelled.{codes-known}
+use Rattle.compare.proofs.Related.{equal-by-none}
+
+-- ---- codes in use, place by place
+pub used-more : (stack stack′ : List ℕ) (i : ℕ) → used stack i ≡ used stack′ i → getD stack i 0 ≡ getD stack′ i 0 → used stack (i + 1) ≡ used stack′ (i + 1)
+unfolding used
+used-more stack stack′ i below here = rw add-one (ap₂ _∷_ here below)
+
+pub used-at : (stack stack′ : List ℕ) (count i : ℕ) → i < count → used stack count ≡ used stack′ count → getD stack i 0 ≡ getD stack′ i 0
+unfolding used
+used-at stack stack′ zero i i< e = absurd (omega arith)
+used-at stack stack′ (suc count) i i< e =
+    ⊎-elim (λ last. subst (λ (k : ℕ). getD stack k 0 ≡ getD stack′ k 0) (sym last) (head-eq-of-cons-eq e))
+    (λ below. used-at stack stack′ count i below (tail-eq-of-cons-eq e)) (eq-or-lt-of-le (le-of-suc-le-suc i<))
+
+-- ---- states
+-- the codes agree, and the first tail is the second with j W's more
+pub record Agree (stack : List ℕ) (state : State) (stack′ : List ℕ) (state′ : State) (j : ℕ) : Type 0 where
+  pub codes : used stack (state .count) ≡ used stack′ (state′ .count)
+  pub tail : state .tail ≡ with-Ws (state′ .tail) j
+
+module _ (stack stack′ : List ℕ) (state state′ : State) where
+  pub agree-count : (j : ℕ) → Agree stack state stack′ state′ j → state .count ≡ state′ .count
+  agree-count j agree = sym (length-used stack (state .count)) ∙ ap length (agree .codes) ∙ length-used stack′ (state′ .count)
+
+  apart-when-agree : (j : ℕ) → Agree stack state stack′ state′ j → Phase-apart (state-text stack state) (state-text stack′ state′) j
+  unfolding state-text
+  apart-when-agree j agree =
+      same-of-equal
+      (ap₂ (λ (codes : List ℕ) (n : ℕ). matrix-of (codes-text codes ++ tail-text n)) (agree .codes) (agree .tail)
+      ∙ sym (phased-text (codes-text (used stack′ (state′ .count))) (state′ .tail) j))
+
+  -- by uniqueness the texts are equal, and a text is spelled in one way
+  agree-when-apart : Spells stack state → Spells stack′ state′ → (j : ℕ) →
+      Phase-apart (state-text stack state) (state-text stack′ state′) j → Agree stack state stack′ state′ j
+  unfolding state-text
+  agree-when-apart good good′ j s =
+      let codes = used stack (state .count) in
+      let codes′ = used stack′ (state′ .count) in
+      let n = with-Ws (state′ .tail) j in
+      let in-tails = with-Ws-in-tails (state′ .tail) j (good′ .in-tails) in
+      let text = forms-are-unique (codes-text codes ++ tail-text (state .tail)) (codes-text codes′ ++ tail-text n)
+      (codes-form (good .codes) (good .in-tails)) (codes-form (good′ .codes) in-tails)
+      (subst (Same (matrix-of (codes-text codes ++ tail-text (state .tail)))) (phased-text (codes-text codes′) (state′ .tail) j) s) in
+      let (known, tail) = codes-known codes codes′ (tail-text (state .tail)) (tail-text n) (good .codes) (good′ .codes)
+      (t-count-tail (state .tail)) (t-count-tail n) text in
+      record { codes = known; tail = tails-distinct (state .tail) n (good .in-tails) in-tails tail }
+
+  pub equal-states : Agree stack state stack′ state′ 0 → Related (state-text stack state) (state-text stack′ state′) same
+  equal-states agree = equal (equal-by-none (state-text stack state) (state-text stack′ state′) (apart-when-agree 0 agree))
+
+  pub apart-states : (j : ℕ) → 1 ≤ j → j ≤ 7 → Agree stack state stack′ state′ j → Related (state-text stack state) (state-text stack′ state′) (phase j)
+  apart-states j low high agree = apart low high (apart-when-agree j agree)
+
+  pub unlike-states : Spells stack state → Spells stack′ state′ → ((j : ℕ) → Agree stack state stack′ state′ j → ⊥) →
+      Related (state-text stack state) (state-text stack′ state′) different
+  unlike-states good good′ none = unlike (λ j s. none j (agree-when-apart good good′ j s))

@@ -1,0 +1,47 @@
+-- The promise of string to matrix fixes its answer: two answers that fit it for one text are equal, as they are said and as
+-- they are given. Assumes nothing.
+use Prim.Native.Nat.{ℕ, _≤_, _<_}
+use native.Mathlib.Omega.{arith}
+use mathlib.Core.List.{List}
+use mathlib.Core.Path.{_≡_, refl, ap}
+use Rattle.matrix.specs.declared.Matrix.{Matrix}
+use Rattle.matrix.specs.Matrix.{Least-record}
+use Rattle.matrix.specs.Letter.{matrix-of}
+use Rattle.matrix.proofs.Least.{least-unique}
+use Rattle.answer.specs.Limits.{exponent-limit}
+use Rattle.answer.specs.Refusal.{Said, accepted, refusal}
+use Rattle.answer.proofs.Told.{refusal-told}
+use Rattle.letter.proofs.String.{string-refused-once, string-refused-or-accepted}
+use Rattle.expand.specs.declared.Expanded.{Expanded}
+use Rattle.expand.specs.declared.Expanded.the-variants.{Record, Refused}
+use Rattle.expand.specs.Expand.{said, String-to-matrix, refused-string, high-least-exponent, least-record}
+
+-- one exponent is not both above the limit and within it
+high-or-low : (text : List ℕ) {m n : Matrix} → Least-record (matrix-of text) m → exponent-limit < m .exponent →
+    Least-record (matrix-of text) n → n .exponent ≤ exponent-limit → ⊥
+high-or-low text {m} {n} l high k low =
+    let same : m .exponent ≡ n .exponent = ap (λ (r : Matrix). r .exponent) (least-unique (matrix-of text) m n l k) in
+    omega arith
+
+-- two answers that both fit the promise are said alike
+pub expanded-said-once : {text : List ℕ} {a b : Said Matrix} → String-to-matrix text a → String-to-matrix text b → a ≡ b
+expanded-said-once (refused-string r) (refused-string s) = ap refusal (string-refused-once r s)
+expanded-said-once (refused-string r) (high-least-exponent t l h) = absurd (string-refused-or-accepted r t)
+expanded-said-once (refused-string r) (least-record t l h) = absurd (string-refused-or-accepted r t)
+expanded-said-once (high-least-exponent s l h) (refused-string r) = absurd (string-refused-or-accepted r s)
+expanded-said-once (high-least-exponent s l h) (high-least-exponent t k g) = refl
+expanded-said-once {text} (high-least-exponent s l h) (least-record t k g) = absurd (high-or-low text l h k g)
+expanded-said-once (least-record s l h) (refused-string r) = absurd (string-refused-or-accepted r s)
+expanded-said-once {text} (least-record s l h) (high-least-exponent t k g) = absurd (high-or-low text k g l h)
+expanded-said-once {text} (least-record {m} s l h) (least-record {m = n} t k g) = ap accepted (least-unique (matrix-of text) m n l k)
+
+-- no two cases of the enum are said alike
+pub said-once : (a b : Expanded) → said a ≡ said b → a ≡ b
+said-once (Record m) (Record n) same = let records : m ≡ n = cc in ap Record records
+said-once (Record m) (Refused s) same = absurd (let z : _≡_ {A = ℕ} 0 1 = cc in omega arith)
+said-once (Refused r) (Record n) same = absurd (let z : _≡_ {A = ℕ} 0 1 = cc in omega arith)
+said-once (Refused r) (Refused s) same = ap Refused (refusal-told r s same)
+
+-- so the value that is returned is one
+pub expanded-once : (text : List ℕ) (a b : Expanded) → String-to-matrix text (said a) → String-to-matrix text (said b) → a ≡ b
+expanded-once text a b fits fits′ = said-once a b (expanded-said-once fits fits′)

@@ -1,0 +1,256 @@
+// String to matrix: the least record of a string's matrix.
+use answer::EXPONENT_LIMIT;
+use answer::FORM_LIMIT;
+use answer::Refusal;
+use answer::Written;
+use matrix::Matrix;
+use matrix::Row;
+use ring::Element;
+ghost use Prim.Native.Nat.{_≤_};
+ghost use mathlib.Core.Path.{_≡_};
+ghost use Rattle.matrix.specs.Matrix.{identity, times, Least-record};
+ghost use Rattle.matrix.specs.Letter.{gate, gate-H, gate-S, gate-T, gate-W, gate-X, matrix-of};
+ghost use Rattle.form.specs.Form.{Form};
+ghost use Rattle.form.specs.Count.{t-count};
+ghost use Rattle.expand.specs.Expand.{said, String-to-matrix};
+ghost use Rattle.expand.specs.Room.{t-limit, Form-letter, Roomy, Reducible, Reduces, Lowered};
+
+// The T's that the form of a record within the exponent limit holds at most.
+const T_LIMIT: usize = 2 * (EXPONENT_LIMIT as usize) + 1;
+
+pub enum Expanded {
+    Record(Matrix),
+    Refused(Refusal),
+}
+
+// The matrix of the empty string.
+fn identity() -> Matrix
+    ensures { λ r. ⌜ r ≡ identity ⌝ }
+{
+    let one = Element::ONE;
+    let nothing = Element {
+        a0: 0,
+        a1: 0,
+        a2: 0,
+        a3: 0,
+    };
+    Matrix {
+        exponent: 0,
+        top: Row {
+            left: one,
+            right: nothing,
+        },
+        bottom: Row {
+            left: nothing,
+            right: one,
+        },
+    }
+}
+
+// H times a record.
+fn by_h(m: Matrix) -> Matrix
+    requires { ⌜ Roomy m ⌝ }
+    ensures { λ r. ⌜ r ≡ times gate-H m ⌝ }
+{
+    let a = m.top.left;
+    let b = m.top.right;
+    let c = m.bottom.left;
+    let d = m.bottom.right;
+    Matrix {
+        exponent: m.exponent + 1,
+        top: Row {
+            left: a.plus(c),
+            right: b.plus(d),
+        },
+        bottom: Row {
+            left: a.plus(c.negated()),
+            right: b.plus(d.negated()),
+        },
+    }
+}
+
+// T times a record.
+fn by_t(m: Matrix) -> Matrix
+    requires { ⌜ Roomy m ⌝ }
+    ensures { λ r. ⌜ r ≡ times gate-T m ⌝ }
+{
+    let top = m.top;
+    let c = m.bottom.left;
+    let d = m.bottom.right;
+    Matrix {
+        exponent: m.exponent,
+        top,
+        bottom: Row {
+            left: c.turned(),
+            right: d.turned(),
+        },
+    }
+}
+
+// W times a record.
+fn by_w(m: Matrix) -> Matrix
+    requires { ⌜ Roomy m ⌝ }
+    ensures { λ r. ⌜ r ≡ times gate-W m ⌝ }
+{
+    let a = m.top.left;
+    let b = m.top.right;
+    let c = m.bottom.left;
+    let d = m.bottom.right;
+    Matrix {
+        exponent: m.exponent,
+        top: Row {
+            left: a.turned(),
+            right: b.turned(),
+        },
+        bottom: Row {
+            left: c.turned(),
+            right: d.turned(),
+        },
+    }
+}
+
+// X times a record.
+fn by_x(m: Matrix) -> Matrix
+    ensures { λ r. ⌜ r ≡ times gate-X m ⌝ }
+{
+    let top = m.top;
+    let bottom = m.bottom;
+    Matrix {
+        exponent: m.exponent,
+        top: bottom,
+        bottom: top,
+    }
+}
+
+// S times a record: S = TT.
+fn by_s(m: Matrix) -> Matrix
+    requires { ⌜ Roomy m ⌝ }
+    ensures { λ r. ⌜ r ≡ times gate-S m ⌝ }
+{
+    by_t(by_t(m))
+}
+
+// A letter of a form, its matrix times a record.
+fn prefixed(letter: u8, m: Matrix) -> Matrix
+    requires { ⌜ Form-letter letter ⌝ }
+    requires { ⌜ Roomy m ⌝ }
+    ensures { λ r. ⌜ r ≡ times (gate letter) m ⌝ }
+{
+    match letter {
+        b'H' => by_h(m),
+        b'S' => by_s(m),
+        b'T' => by_t(m),
+        b'W' => by_w(m),
+        _ => by_x(m),
+    }
+}
+
+// A form's letters multiplied out, from its right end.
+fn product_of(form: &[u8]) -> Matrix
+    requires { ⌜ Form (now form) ⌝ }
+    requires { ⌜ t-count (now form) ≤ t-limit ⌝ }
+    ensures { λ r. ⌜ r ≡ matrix-of (now (form .entry)) ⌝ }
+{
+    let mut m = identity();
+    let mut done = 0;
+    while done < form.len() {
+        done += 1;
+        m = prefixed(form[form.len() - done], m);
+    }
+    m
+}
+
+// Whether the exponent can fall: √2 divides every element.
+fn reducible(m: Matrix) -> bool
+    ensures { λ r. ⌜ Reduces m r ⌝ }
+{
+    if m.exponent == 0 {
+        return false;
+    }
+    let a = m.top.left;
+    let b = m.top.right;
+    let c = m.bottom.left;
+    let d = m.bottom.right;
+    if !a.divides_by_root2() {
+        return false;
+    }
+    if !b.divides_by_root2() {
+        return false;
+    }
+    if !c.divides_by_root2() {
+        return false;
+    }
+    d.divides_by_root2()
+}
+
+// The elements divided by √2, at one exponent less.
+fn lowered(m: Matrix) -> Matrix
+    requires { ⌜ Roomy m ⌝ }
+    requires { ⌜ Reducible m ⌝ }
+    ensures { λ r. ⌜ Lowered m r ⌝ }
+{
+    let a = m.top.left;
+    let b = m.top.right;
+    let c = m.bottom.left;
+    let d = m.bottom.right;
+    Matrix {
+        exponent: m.exponent - 1,
+        top: Row {
+            left: a.over_root2(),
+            right: b.over_root2(),
+        },
+        bottom: Row {
+            left: c.over_root2(),
+            right: d.over_root2(),
+        },
+    }
+}
+
+// The least record.
+fn least(m: Matrix) -> Matrix
+    requires { ⌜ Roomy m ⌝ }
+    ensures { λ r. ⌜ Least-record m r ⌝ }
+{
+    let mut r = m;
+    while reducible(r) {
+        r = lowered(r);
+    }
+    r
+}
+
+// A form with few T's, multiplied out and reduced.
+fn of_form(form: &[u8]) -> Expanded
+    requires { ⌜ Form (now form) ⌝ }
+    requires { ⌜ t-count (now form) ≤ t-limit ⌝ }
+    ensures { λ r. ⌜ String-to-matrix (now (form .entry)) (said r) ⌝ }
+{
+    let product = product_of(form);
+    let record = least(product);
+    if EXPONENT_LIMIT < record.exponent {
+        return Expanded::Refused(Refusal::HighLeastExponent);
+    }
+    Expanded::Record(record)
+}
+
+// Room for the form of any string within the limit.
+fn room() -> [u8; FORM_LIMIT] {
+    [0u8; FORM_LIMIT]
+}
+
+// String to matrix. A form with many T's has a least exponent above the limit, which is known without its matrix.
+pub fn string_to_matrix(text: &[u8]) -> Expanded
+    ensures { λ r. ⌜ String-to-matrix (now (text .entry)) (said r) ⌝ }
+{
+    let mut form = room();
+    let written = squeeze::string_to_form(text, &mut form);
+    match written {
+        Written::Form(figures) => {
+            if T_LIMIT < figures.tcount {
+                return Expanded::Refused(Refusal::HighLeastExponent);
+            }
+            let length = figures.length;
+            of_form(&form[..length])
+        }
+        Written::Refused(refusal) => Expanded::Refused(refusal),
+    }
+}

@@ -1,0 +1,81 @@
+-- Two answers, and two buffers, that fit one promise are equal: of the frame reader and of the frame writer.
+-- Assumes nothing.
+use mathlib.Core.Path.{_≡_, refl, sym, _∙_, ap, subst}
+use mathlib.Core.List.{List}
+use Prim.Native.Nat.{ℕ}
+use native.Mathlib.Omega.{arith}
+use Rattle.matrix.specs.declared.Matrix.{Matrix}
+use Rattle.answer.specs.declared.Refusal.{Refusal}
+use Rattle.answer.specs.declared.Refusal.the-variants.{BadFrame}
+use Rattle.answer.specs.Refusal.{Said, accepted, refusal}
+use Rattle.accept.specs.Accept.{Refused-record}
+use Rattle.accept.proofs.Judged.{refused-once, accepted-not-refused}
+use Rattle.frame.specs.Frame.{check-word, Spells}
+use Rattle.frame.specs.Calls.{Bad-frame, short, long, bad-digit, Refused-frame, bad-frame, bad-check-word, bad-record, Accepted-frame, Frame-to-matrix, refused-frame, accepted-frame, Matrix-to-frame, refused-record, no-room, framed}
+use Rattle.frame.proofs.Digits.{digits-hold-none-bad, first-bad-digit-once}
+use Rattle.frame.proofs.Spelled.{spells-length, spells-digits, spells-once}
+
+-- ---- refusal 9
+bad-frame-once : {text : List ℕ} {p q : ℕ} → Bad-frame text p → Bad-frame text q → p ≡ q
+bad-frame-once (short h) (short k) = refl
+bad-frame-once (short h) (long k) = absurd (omega arith)
+bad-frame-once (short h) (bad-digit l b) = absurd (omega arith)
+bad-frame-once (long h) (short k) = absurd (omega arith)
+bad-frame-once (long h) (long k) = refl
+bad-frame-once (long h) (bad-digit l b) = absurd (omega arith)
+bad-frame-once (bad-digit l a) (short k) = absurd (omega arith)
+bad-frame-once (bad-digit l a) (long k) = absurd (omega arith)
+bad-frame-once (bad-digit l a) (bad-digit m b) = first-bad-digit-once a b
+
+-- a text that spells a record is no bad frame
+spelled-not-bad : {text : List ℕ} {m : Matrix} {check p : ℕ} → Spells text m check → Bad-frame text p → ⊥
+spelled-not-bad s (short h) = omega (arith, spells-length s)
+spelled-not-bad s (long h) = omega (arith, spells-length s)
+spelled-not-bad s (bad-digit l b) = digits-hold-none-bad (spells-digits s) b
+
+-- a text with a wrong check word has the right one for no record
+wrong-not-right : {text : List ℕ} {m n : Matrix} {check : ℕ} → Spells text m check → (check ≡ check-word m → ⊥) → Spells text n (check-word n) → ⊥
+wrong-not-right s wrong t = let e = spells-once s t in wrong (e .1 ∙ ap check-word (sym (e .0)))
+
+-- the record of a text with its right check word
+refused-as : {text : List ℕ} {m n : Matrix} {r : Refusal} → Spells text m (check-word m) → Spells text n (check-word n) → Refused-record m r → Refused-record n r
+refused-as {r = r} s t h = subst (λ (x : Matrix). Refused-record x r) (spells-once s t .0) h
+
+-- ---- frame to matrix
+refused-frame-once : {text : List ℕ} {r s : Refusal} → Refused-frame text r → Refused-frame text s → r ≡ s
+refused-frame-once (bad-frame a) (bad-frame b) = ap BadFrame (bad-frame-once a b)
+refused-frame-once (bad-frame a) (bad-check-word s w) = absurd (spelled-not-bad s a)
+refused-frame-once (bad-frame a) (bad-record s r) = absurd (spelled-not-bad s a)
+refused-frame-once (bad-check-word s w) (bad-frame b) = absurd (spelled-not-bad s b)
+refused-frame-once (bad-check-word s w) (bad-check-word t v) = refl
+refused-frame-once (bad-check-word s w) (bad-record t r) = absurd (wrong-not-right s w t)
+refused-frame-once (bad-record s r) (bad-frame b) = absurd (spelled-not-bad s b)
+refused-frame-once (bad-record s r) (bad-check-word t v) = absurd (wrong-not-right t v s)
+refused-frame-once (bad-record s r) (bad-record t q) = refused-once (refused-as s t r) q
+
+accepted-frame-not-refused : {text : List ℕ} {m : Matrix} {r : Refusal} → Accepted-frame text m → Refused-frame text r → ⊥
+accepted-frame-not-refused a (bad-frame b) = spelled-not-bad (a .spells) b
+accepted-frame-not-refused a (bad-check-word s w) = wrong-not-right s w (a .spells)
+accepted-frame-not-refused a (bad-record s r) = accepted-not-refused (a .record-accepted) (refused-as s (a .spells) r)
+
+-- two answers of the frame reader that fit its promise are equal
+pub frame-read-once : {text : List ℕ} {a b : Said Matrix} → Frame-to-matrix text a → Frame-to-matrix text b → a ≡ b
+frame-read-once (refused-frame r) (refused-frame s) = ap refusal (refused-frame-once r s)
+frame-read-once (refused-frame r) (accepted-frame b) = absurd (accepted-frame-not-refused b r)
+frame-read-once (accepted-frame a) (refused-frame s) = absurd (accepted-frame-not-refused a s)
+frame-read-once (accepted-frame a) (accepted-frame b) = ap accepted (spells-once (a .spells) (b .spells) .0)
+
+-- ---- matrix to frame
+-- two answers of the frame writer that fit its promise are equal, and so are the buffers
+pub frame-written-once :
+    {m : Matrix} {before s t : List ℕ} {a b : Said (Unit {0})} → Matrix-to-frame m before a s → Matrix-to-frame m before b t →
+    (a ≡ b) × (s ≡ t)
+frame-written-once (refused-record r) (refused-record q) = (ap refusal (refused-once r q), refl)
+frame-written-once (refused-record r) (no-room a h) = absurd (accepted-not-refused a r)
+frame-written-once (refused-record r) (framed a h) = absurd (accepted-not-refused a r)
+frame-written-once (no-room a h) (refused-record q) = absurd (accepted-not-refused a q)
+frame-written-once (no-room a h) (no-room b k) = (refl, refl)
+frame-written-once (no-room a h) (framed b k) = absurd (omega arith)
+frame-written-once (framed a h) (refused-record q) = absurd (accepted-not-refused a q)
+frame-written-once (framed a h) (no-room b k) = absurd (omega arith)
+frame-written-once (framed a h) (framed b k) = (refl, refl)

@@ -1,0 +1,4 @@
+pub mod Digit
+pub mod Frame
+pub mod Calls
+pub mod Parts

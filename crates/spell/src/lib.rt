@@ -1,0 +1,32 @@
+// A string spelled on a stack: its refusal, 2 then 1, or the state that spells its form there.
+use answer::Refusal;
+use answer::STRING_LIMIT;
+use extend::State;
+use extend::Taken;
+ghost use Prim.Native.Nat.{_≤_};
+ghost use lib.ListN.{length};
+ghost use Rattle.answer.specs.Limits.{string-limit};
+ghost use Rattle.tail.specs.Product.{Product-table};
+ghost use Rattle.spell.specs.Spell.{Spells-string};
+
+pub enum Spelled {
+    Form(State),
+    Refused(Refusal),
+}
+
+// One pass over the letters, up to a byte that is none.
+pub fn spell(products: &[u8; 1152], stack: &mut [u8], text: &[u8]) -> Spelled
+    requires { ⌜ Product-table (now products) ⌝ }
+    requires { ⌜ string-limit ≤ length (now stack) ⌝ }
+    ensures { λ r. ⌜ Spells-string (now (text .entry)) (now (stack .exit)) r ⌝ }
+{
+    if STRING_LIMIT < text.len() {
+        let limit = STRING_LIMIT;
+        return Spelled::Refused(Refusal::TooLong { limit });
+    }
+    let taken = extend::by_text(products, stack, extend::fresh(), text);
+    match taken {
+        Taken::Bad(place) => Spelled::Refused(Refusal::BadLetter { place }),
+        Taken::Whole(state) => Spelled::Form(state),
+    }
+}
