@@ -1,0 +1,3 @@
+pub mod Block
+pub mod Kept
+pub mod Within
