@@ -1,0 +1,108 @@
+-- Whatever the promise of a call lets be said is legible in the answer word: each value fits in its bits.
+-- Assumes nothing.
+use Prim.Native.Nat.{ℕ, _≤_, _<_}
+use native.Mathlib.Omega.{arith}
+use mathlib.Core.List.{List}
+use mathlib.Core.Path.{_≡_}
+use lib.ListN.{length}
+use Rattle.matrix.specs.declared.Matrix.{Matrix}
+use Rattle.form.specs.Form.{Form}
+use Rattle.form.specs.Count.{t-count, h-count}
+use Rattle.form.proofs.Count.{t-count-within, h-count-within}
+use Rattle.answer.specs.declared.Figures.{Figures}
+use Rattle.answer.specs.declared.Refusal.{Refusal}
+use Rattle.answer.specs.Limits.{form-limit}
+use Rattle.answer.specs.Refusal.{Said, number, place}
+use Rattle.answer.specs.Written.{Put-form, figures-of}
+use Rattle.letter.specs.String.{Refused-string}
+use Rattle.accept.specs.Accept.{Refused-record}
+use Rattle.squeeze.specs.String.{String-to-form}
+use Rattle.gates.specs.Gates.{Matrix-to-form}
+use Rattle.frame.specs.Calls.{Refused-frame, Frame-to-matrix, Matrix-to-frame}
+use Rattle.unframe.specs.Unframe.{Frame-to-form}
+use Rattle.reader.specs.declared.Reading.{Reading}
+use Rattle.reader.specs.Reader.{Form-reader, reading-of}
+use Rattle.compare.specs.Compare.{Verdict, Related, Comparison}
+use Rattle.expand.specs.Expand.{String-to-matrix}
+use Rattle.face.specs.Word.{Legible, Legible-refusal, Legible-figures, Legible-reading, Legible-record, Legible-verdict}
+use Rattle.face.proofs.Within.{bad-letter-within, wide-coefficient-within, bad-frame-within, form-of-string-within, form-of-record-within}
+
+abbrev Legible-of : Refusal → Type 0
+Legible-of r = Legible-refusal (number r) (place r)
+
+-- the refusals of a string, a record and a frame
+
+string-refusal : {text : List ℕ} {r : Refusal} → Refused-string text r → Legible-of r
+string-refusal (Refused-string.too-long h) = omega arith
+string-refusal (Refused-string.bad-letter h bad) = omega (arith, bad-letter-within bad)
+
+record-refusal : {m : Matrix} {r : Refusal} → Refused-record m r → Legible-of r
+record-refusal (Refused-record.high-exponent h) = omega arith
+record-refusal {m} (Refused-record.wide-coefficient h wide) = omega (arith, wide-coefficient-within m wide)
+record-refusal (Refused-record.not-unitary inside not) = omega arith
+
+frame-refusal : {text : List ℕ} {r : Refusal} → Refused-frame text r → Legible-of r
+frame-refusal (Refused-frame.bad-frame bad) = omega (arith, bad-frame-within bad)
+frame-refusal (Refused-frame.bad-check-word spells wrong) = omega arith
+frame-refusal (Refused-frame.bad-record spells refused) = record-refusal refused
+
+-- a form within the form limit, written or refused for want of room
+
+put-legible :
+    {f before after : List ℕ} {answer : Said Figures} → length f ≤ form-limit → Put-form f before answer after →
+    Legible Legible-figures answer
+unfolding figures-of
+put-legible short (Put-form.no-room h) = omega arith
+put-legible {f} short (Put-form.room h) = omega (arith, t-count-within f, h-count-within f)
+
+-- each call
+
+pub string-to-form-legible :
+    {text before after : List ℕ} {answer : Said Figures} → String-to-form text before answer after → Legible Legible-figures answer
+string-to-form-legible (String-to-form.refused-string refused) = string-refusal refused
+string-to-form-legible (String-to-form.squeezed accepted form put) = put-legible (form-of-string-within accepted form) put
+
+pub matrix-to-form-legible :
+    {m : Matrix} {before after : List ℕ} {answer : Said Figures} → Matrix-to-form m before answer after → Legible Legible-figures answer
+matrix-to-form-legible (Matrix-to-form.refused-record refused) = record-refusal refused
+matrix-to-form-legible (Matrix-to-form.squeezed accepted form same put) = put-legible (form-of-record-within accepted form same) put
+
+pub frame-to-form-legible :
+    {text before after : List ℕ} {answer : Said Figures} → Frame-to-form text before answer after → Legible Legible-figures answer
+frame-to-form-legible (Frame-to-form.refused-frame refused) = frame-refusal refused
+frame-to-form-legible (Frame-to-form.squeezed accepted form same put) =
+    put-legible (form-of-record-within (accepted .record-accepted) form same) put
+
+pub form-reader-legible : {text : List ℕ} {answer : Said Reading} → Form-reader text answer → Legible Legible-reading answer
+unfolding reading-of
+form-reader-legible (Form-reader.too-long h) = omega arith
+form-reader-legible (Form-reader.bad-letter h bad) = omega (arith, bad-letter-within bad)
+form-reader-legible (Form-reader.not-form h letters not longest) = omega (arith, longest .within)
+form-reader-legible {text} (Form-reader.form h f) = omega (arith, t-count-within text, h-count-within text, f .in-tails)
+
+relation-legible : {a b : List ℕ} {verdict : Verdict} → Related a b verdict → Legible-verdict verdict
+relation-legible (Related.equal same) = tt
+relation-legible (Related.apart low high apart) = omega arith
+relation-legible (Related.unlike not) = tt
+
+pub comparison-legible : {a b : List ℕ} {verdict : Verdict} → Comparison a b verdict → Legible-verdict verdict
+comparison-legible (Comparison.first-refused refused) = string-refusal refused
+comparison-legible (Comparison.second-refused accepted refused) = string-refusal refused
+comparison-legible (Comparison.compared a b related) = relation-legible related
+
+pub string-to-matrix-legible : {text : List ℕ} {answer : Said Matrix} → String-to-matrix text answer → Legible Legible-record answer
+string-to-matrix-legible (String-to-matrix.refused-string refused) = string-refusal refused
+string-to-matrix-legible (String-to-matrix.high-least-exponent accepted least high) = omega arith
+string-to-matrix-legible (String-to-matrix.least-record accepted least low) = omega arith
+
+pub frame-to-matrix-legible : {text : List ℕ} {answer : Said Matrix} → Frame-to-matrix text answer → Legible Legible-record answer
+frame-to-matrix-legible (Frame-to-matrix.refused-frame refused) = frame-refusal refused
+frame-to-matrix-legible (Frame-to-matrix.accepted-frame accepted) =
+    let low = accepted .record-accepted .inside .exponent in omega arith
+
+pub matrix-to-frame-legible :
+    {m : Matrix} {before after : List ℕ} {answer : Said (Unit {0})} → Matrix-to-frame m before answer after →
+    Legible (λ nothing. Unit {0}) answer
+matrix-to-frame-legible (Matrix-to-frame.refused-record refused) = record-refusal refused
+matrix-to-frame-legible (Matrix-to-frame.no-room accepted h) = omega arith
+matrix-to-frame-legible (Matrix-to-frame.framed accepted h) = tt

@@ -1,0 +1,4 @@
+-- What the proofs of several calls use, and what the answer words tell.
+pub mod Within
+pub mod Legible
+pub mod Tells

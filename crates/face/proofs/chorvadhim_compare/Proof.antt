@@ -1,0 +1,19 @@
+-- `face::chorvadhim_compare` meets its contract: what the comparison says is legible, and is packed. Assumes nothing.
+use borrow.Author.Needs.{needs}
+use Rattle.face.proofs.Legible.{comparison-legible}
+use Rattle.face.proofs.chorvadhim_compare.Statement.{statement}
+use Rattle.face.proofs.chorvadhim_compare.Tie as tie
+
+compare-requires : tie.Need-compare-requires
+compare-requires c κs = search needs
+
+compared-word-requires : tie.Need-compared-word-requires
+compared-word-requires c κs = comparison-legible (c .compare .ensures)
+
+returns : tie.Need-returns
+returns c =
+    let promised = c .before .compare .ensures in
+    record { answer = _; promised = promised; legible = comparison-legible promised; says = c .compared-word .ensures }
+
+pub chorvadhim-compare-spec : {M : Type 1} → statement M
+chorvadhim-compare-spec = tie.close (tie.spec compare-requires compared-word-requires returns)

@@ -1,0 +1,223 @@
+// The calls for C and Rust: numbers and lent slices in, one answer word out.
+use answer::Figures;
+use answer::Refusal;
+use answer::Written;
+use compare::Compared;
+use compare::Which;
+use expand::Expanded;
+use frame::Framed;
+use frame::Stored;
+use matrix::Matrix;
+use matrix::Row;
+use reader::Read;
+use reader::Reading;
+use ring::Element;
+ghost use mathlib.Core.Path.{_≡_};
+ghost use Prim.Native.Nat.{_+_, _*_, _^_, _≤_};
+ghost use Rattle.answer.specs.Refusal.{number, place};
+ghost use Rattle.answer.specs.Written.{said};
+ghost use Rattle.accept.specs.Accept.{coefficients};
+ghost use Rattle.reader.specs.Reader.{said as said-read};
+ghost use Rattle.compare.specs.Compare.{verdict};
+ghost use Rattle.frame.specs.Calls.{said-stored};
+ghost use Rattle.face.specs.Word.{refusal-word, figures-word, reading-word, record-word, frame-word, verdict-word, which-number, packed, Legible, Legible-refusal, Legible-figures, Legible-reading, Legible-record, Legible-verdict};
+ghost use Rattle.face.specs.Record.{element-at, record-of};
+ghost use Rattle.face.specs.Calls.{String-to-form-word, Matrix-to-form-word, Frame-to-form-word, Form-reader-word, Comparison-word, String-to-matrix-word, Frame-to-matrix-word, Matrix-to-frame-word};
+
+fn refusal_word(refusal: Refusal) -> u64
+    requires { ⌜ Legible-refusal (number refusal) (place refusal) ⌝ }
+    ensures { λ r. ⌜ r ≡ refusal-word (number refusal) (place refusal) ⌝ }
+{
+    (refusal.number() as u64) + 256 * (refusal.place() as u64)
+}
+
+fn figures_word(figures: Figures) -> u64
+    requires { ⌜ Legible-figures figures ⌝ }
+    ensures { λ r. ⌜ r ≡ figures-word figures ⌝ }
+{
+    let length = figures.length as u64;
+    let tcount = figures.tcount as u64;
+    let hcount = figures.hcount as u64;
+    256 * length + 16777216 * tcount + 1099511627776 * hcount
+}
+
+// The word of a call that writes a form.
+fn written_word(written: Written) -> u64
+    requires { ⌜ Legible Legible-figures (said written) ⌝ }
+    ensures { λ r. ⌜ r ≡ packed figures-word (said written) ⌝ }
+{
+    match written {
+        Written::Form(figures) => figures_word(figures),
+        Written::Refused(refusal) => refusal_word(refusal),
+    }
+}
+
+fn reading_word(reading: Reading) -> u64
+    requires { ⌜ Legible-reading reading ⌝ }
+    ensures { λ r. ⌜ r ≡ reading-word reading ⌝ }
+{
+    let figures = Figures {
+        length: reading.length,
+        tcount: reading.tcount,
+        hcount: reading.hcount,
+    };
+    figures_word(figures) + 72057594037927936 * (reading.tail as u64)
+}
+
+fn read_word(read: Read) -> u64
+    requires { ⌜ Legible Legible-reading (said-read read) ⌝ }
+    ensures { λ r. ⌜ r ≡ packed reading-word (said-read read) ⌝ }
+{
+    match read {
+        Read::Form(reading) => reading_word(reading),
+        Read::Refused(refusal) => refusal_word(refusal),
+    }
+}
+
+fn stored_word(stored: Stored) -> u64
+    requires { ⌜ Legible (λ nothing. Unit {0}) (said-stored stored) ⌝ }
+    ensures { λ r. ⌜ r ≡ packed frame-word (said-stored stored) ⌝ }
+{
+    match stored {
+        Stored::Frame => 0,
+        Stored::Refused(refusal) => refusal_word(refusal),
+    }
+}
+
+fn which_number(which: Which) -> u64
+    ensures { λ r. ⌜ r ≡ which-number which ⌝ }
+{
+    match which {
+        Which::First => 0,
+        Which::Second => 1,
+    }
+}
+
+fn compared_word(compared: Compared) -> u64
+    requires { ⌜ Legible-verdict (verdict compared) ⌝ }
+    ensures { λ r. ⌜ r ≡ verdict-word (verdict compared) ⌝ }
+{
+    match compared {
+        Compared::Same => 0,
+        Compared::Phase(j) => 256 * (j as u64),
+        Compared::Different => 2048,
+        Compared::Refused { which, refusal } => {
+            refusal_word(refusal) + 1099511627776 * which_number(which)
+        }
+    }
+}
+
+fn element_at(lent: &[i64; 16], place: usize) -> Element
+    requires { ⌜ place ≤ 12 ⌝ }
+    ensures { λ r. ⌜ r ≡ element-at (now (lent .entry)) place ⌝ }
+{
+    Element {
+        a0: lent[place],
+        a1: lent[place + 1],
+        a2: lent[place + 2],
+        a3: lent[place + 3],
+    }
+}
+
+// The record of an exponent and a lent array.
+fn record_of(exponent: u32, lent: &[i64; 16]) -> Matrix
+    ensures { λ r. ⌜ r ≡ record-of exponent (now (lent .entry)) ⌝ }
+{
+    let top = Row {
+        left: element_at(lent, 0),
+        right: element_at(lent, 4),
+    };
+    let bottom = Row {
+        left: element_at(lent, 8),
+        right: element_at(lent, 12),
+    };
+    Matrix {
+        exponent,
+        top,
+        bottom,
+    }
+}
+
+// A record's coefficients left in a lent array, and its word.
+fn put_record(m: Matrix, lent: &mut [i64; 16]) -> u64
+    requires { ⌜ Legible-record m ⌝ }
+    ensures { λ r. ⌜ r ≡ record-word m ⌝ }
+    ensures { λ _. ⌜ now (lent .exit) ≡ coefficients m ⌝ }
+{
+    *lent = accept::coefficients(m);
+    256 * (m.exponent as u64)
+}
+
+#[no_mangle]
+pub extern "C" fn chorvadhim_string_to_form(text: &[u8], buffer: &mut [u8]) -> u64
+    ensures { λ r. ⌜ String-to-form-word (now (text .entry)) (now (buffer .entry)) r (now (buffer .exit)) ⌝ }
+{
+    written_word(squeeze::string_to_form(text, buffer))
+}
+
+#[no_mangle]
+pub extern "C" fn chorvadhim_matrix_to_form(
+    exponent: u32,
+    coefficients: &[i64; 16],
+    buffer: &mut [u8],
+) -> u64
+    ensures { λ r. ⌜ Matrix-to-form-word exponent (now (coefficients .entry)) (now (buffer .entry)) r (now (buffer .exit)) ⌝ }
+{
+    let m = record_of(exponent, coefficients);
+    written_word(gates::matrix_to_form(m, buffer))
+}
+
+#[no_mangle]
+pub extern "C" fn chorvadhim_frame_to_form(text: &[u8], buffer: &mut [u8]) -> u64
+    ensures { λ r. ⌜ Frame-to-form-word (now (text .entry)) (now (buffer .entry)) r (now (buffer .exit)) ⌝ }
+{
+    written_word(unframe::frame_to_form(text, buffer))
+}
+
+#[no_mangle]
+pub extern "C" fn chorvadhim_read_form(text: &[u8]) -> u64
+    ensures { λ r. ⌜ Form-reader-word (now (text .entry)) r ⌝ }
+{
+    read_word(reader::read_form(text))
+}
+
+#[no_mangle]
+pub extern "C" fn chorvadhim_compare(first: &[u8], second: &[u8]) -> u64
+    ensures { λ r. ⌜ Comparison-word (now (first .entry)) (now (second .entry)) r ⌝ }
+{
+    compared_word(compare::compare(first, second))
+}
+
+#[no_mangle]
+pub extern "C" fn chorvadhim_string_to_matrix(text: &[u8], coefficients: &mut [i64; 16]) -> u64
+    ensures { λ r. ⌜ String-to-matrix-word (now (text .entry)) (now (coefficients .entry)) r (now (coefficients .exit)) ⌝ }
+{
+    let expanded = expand::string_to_matrix(text);
+    match expanded {
+        Expanded::Record(m) => put_record(m, coefficients),
+        Expanded::Refused(refusal) => refusal_word(refusal),
+    }
+}
+
+#[no_mangle]
+pub extern "C" fn chorvadhim_read_frame(text: &[u8], coefficients: &mut [i64; 16]) -> u64
+    ensures { λ r. ⌜ Frame-to-matrix-word (now (text .entry)) (now (coefficients .entry)) r (now (coefficients .exit)) ⌝ }
+{
+    let framed = frame::read_frame(text);
+    match framed {
+        Framed::Record(m) => put_record(m, coefficients),
+        Framed::Refused(refusal) => refusal_word(refusal),
+    }
+}
+
+#[no_mangle]
+pub extern "C" fn chorvadhim_write_frame(
+    exponent: u32,
+    coefficients: &[i64; 16],
+    buffer: &mut [u8],
+) -> u64
+    ensures { λ r. ⌜ Matrix-to-frame-word exponent (now (coefficients .entry)) (now (buffer .entry)) r (now (buffer .exit)) ⌝ }
+{
+    let m = record_of(exponent, coefficients);
+    stored_word(frame::write_frame(m, buffer))
+}
