@@ -2,7 +2,7 @@
 """Prints the table of 1,152 tail products, a constant of the source code.
 
 The entry at 6 n + l is the number of the tail that equals tail n times letter l
-on its right, phase included, l counted in H S W X Y Z. Computed by exact matrices.
+on its right, phase included, l counted in H W X Y Z S. Computed by exact matrices.
 """
 
 import sys
@@ -11,7 +11,7 @@ sys.dont_write_bytecode = True
 
 import oracle
 
-TABLE_LETTERS = b"HSWXYZ"
+TABLE_LETTERS = b"HWXYZS"
 
 
 def tail_product(tail, letter):

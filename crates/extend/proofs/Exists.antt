@@ -13,7 +13,7 @@ use Rattle.form.specs.Tail.{tails, tail-h, head-text, tail-text}
 use Rattle.form.specs.Form.{Form, Form-of}
 use Rattle.form.specs.Count.{t-count}
 use Rattle.form.proofs.Count.{t-count-within, form-is-short}
-use Rattle.tail.proofs.Columns.{has-column}
+use Rattle.tail.proofs.Columns.{column-found}
 use Rattle.tail.proofs.Closure.{product-is-tail}
 use Rattle.tail.proofs.Passing.{passed, joined, passed-T, joined-T}
 use Rattle.extend.specs.State.{Codes, no-codes, front, HT-above, SHT-above, codes-text, Extends}
@@ -30,9 +30,9 @@ record Next (codes : List ℕ) (n letter : ℕ) : Type 0 where
 
 next-tail : {codes : List ℕ} (n b : ℕ) → Codes codes → n < tails → is-letter b ≡ true → (b ≡ T → ⊥) → Next codes n b
 next-tail {codes} n b good n< letter other =
-    let column = has-column b letter other in
-    let found = product-is-tail n (column .0) n< (column .1 .in-columns) in
-    let product = rw (column .1 .stands) at (found .1) in
+    let column = column-found b letter other in
+    let found = product-is-tail n _ n< (column .in-columns) in
+    let product = rw (column .stands) at (found .1) in
     record {
       next-codes = codes;
       good = good;

@@ -18,13 +18,13 @@ H-products = 64 ∷ 128 ∷ 96 ∷ 160 ∷ 80 ∷ 178 ∷ 116 ∷ 150 ∷ 0 ∷ 
 -- the product of tail n with the letter of a column, by "SX = ω² X S³", "Y = ω² X S²" and "Z = S²"
 product-number : ℕ → ℕ → ℕ
 product-number n zero = let m = getD H-products (n / 8) 0 in tail-number (tail-h m) (tail-b m) (tail-c m) ((tail-a m + tail-a n) % 8)
-product-number n (suc zero) = tail-number (tail-h n) (tail-b n) ((tail-c n + 1) % 4) (tail-a n)
-product-number n (suc (suc zero)) = tail-number (tail-h n) (tail-b n) (tail-c n) ((tail-a n + 1) % 8)
-product-number n (suc (suc (suc zero))) =
+product-number n (suc zero) = tail-number (tail-h n) (tail-b n) (tail-c n) ((tail-a n + 1) % 8)
+product-number n (suc (suc zero)) =
     tail-number (tail-h n) (1 - tail-b n) (3 * tail-c n % 4) ((tail-a n + 2 * tail-c n) % 8)
-product-number n (suc (suc (suc (suc zero)))) =
+product-number n (suc (suc (suc zero))) =
     tail-number (tail-h n) (1 - tail-b n) ((3 * tail-c n + 2) % 4) ((tail-a n + 2 * tail-c n + 2) % 8)
-product-number n (suc (suc (suc (suc (suc l))))) = tail-number (tail-h n) (tail-b n) ((tail-c n + 2) % 4) (tail-a n)
+product-number n (suc (suc (suc (suc zero)))) = tail-number (tail-h n) (tail-b n) ((tail-c n + 2) % 4) (tail-a n)
+product-number n (suc (suc (suc (suc (suc l))))) = tail-number (tail-h n) (tail-b n) ((tail-c n + 1) % 4) (tail-a n)
 
 all-products : Holds (every (6 * tails) (λ k. entry-test k (product-number (k / 6) (k % 6))))
 unfolding every entry-test product-number H-products

@@ -10,7 +10,7 @@ use Rattle.form.specs.Tail.{tails, tail-h, head-text, tail-text}
 
 -- "the six letters other than T", in the order of the table's columns
 abbrev pub six-letters : List ℕ
-six-letters = H ∷ S ∷ W ∷ X ∷ Y ∷ Z ∷ []
+six-letters = H ∷ W ∷ X ∷ Y ∷ Z ∷ S ∷ []
 
 -- a letter stands in a column
 pub record Column (letter l : ℕ) : Type 0 where
