@@ -85,3 +85,8 @@ pub row-zero-of-same : {u v : Matrix} (s : Same u v) {m : ℕ} (least : Least-ex
     Row-zero least row → Row-zero (least-exponent-of-same s least) row
 unfolding Row-zero least-exponent-of-same entries-of-same
 row-zero-of-same s least row even = even
+
+pub row-zero-from-same : {u v : Matrix} (s : Same u v) {m : ℕ} (least : Least-exponent u m) (row : Axis) →
+    Row-zero (least-exponent-of-same s least) row → Row-zero least row
+unfolding Row-zero least-exponent-of-same entries-of-same
+row-zero-from-same s least row even = even

@@ -1,3 +1,4 @@
 pub mod Tails
 pub mod Unique
 pub mod Normal
+pub mod Taken
