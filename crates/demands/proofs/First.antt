@@ -1,22 +1,21 @@
 -- The first demand: "It ends with an answer or a numbered refusal from our table, given exactly when the table says.
 -- After a refusal no lent byte has changed." That every call ends with what is promised is each call's own contract; here
 -- is what the promises say, for strings, records and frames alike. Assumes nothing.
-use mathlib.Core.Path.{_≡_, refl, ap, ap₂, sym, _∙_, subst}
+use mathlib.Core.Path.{_≡_, refl, ap, subst}
 use mathlib.Core.List.{List}
 use mathlib.Core.Logic.{_↔_}
-use Prim.Native.Nat.{ℕ, _<_}
-use lib.ListN.{length}
+use Prim.Native.Nat.{ℕ}
 use Rattle.matrix.specs.declared.Matrix.{Matrix}
 use Rattle.matrix.specs.Matrix.{Same}
 use Rattle.matrix.specs.Letter.{matrix-of}
 use Rattle.matrix.proofs.Same.{same-sym, same-trans, same-of-equal}
 use Rattle.form.specs.Form.{Form}
 use Rattle.answer.specs.declared.Figures.{Figures}
-use Rattle.answer.specs.declared.Refusal.{Refusal}
-use Rattle.answer.specs.Refusal.{Said, accepted, refused, refusal, number, place}
-use Rattle.answer.specs.Written.{Put-form}
+use Rattle.answer.specs.Refusal.{Said, refused, refusal}
+use Rattle.answer.specs.Written.{Put-form, no-room}
 use Rattle.answer.proofs.Put.{put-refused, put-once}
-use Rattle.demands.specs.Input.{Input, Promised, Refused, Accepted}
+use Rattle.demands.specs.Input.{Input, Promised}
+use Rattle.demands.specs.Answer.{By-table, for-the-input, for-want-of-room}
 use Rattle.demands.proofs.Cases.{Case, of-input, of-form, promised-case, refused-once, refused-or-accepted, accepted-once}
 use Rattle.unique.proofs.Unique.{forms-are-unique}
 
@@ -45,11 +44,21 @@ case-refused (of-form a f s p) = put-refused p
 pub refusal-changes-nothing : {i : Input} {before after : List ℕ} {n p : ℕ} → Promised i before (refused n p) after → after ≡ before
 refusal-changes-nothing p = case-refused (promised-case p)
 
-case-of-refused : {i : Input} {r : Refusal} {before after : List ℕ} {answer : Said Figures} → Refused i r → Case i before answer after → answer ≡ refusal r
-case-of-refused r (of-input s) = ap refusal (refused-once s r)
-case-of-refused r (of-form a f s p) = absurd (refused-or-accepted r a)
+-- a refusal that is given is one of the table's
+case-by-table : {i : Input} {before after : List ℕ} {n p : ℕ} → Case i before (refused n p) after → By-table i before n p
+case-by-table (of-input r) = for-the-input r
+case-by-table (of-form a f s (no-room h)) = for-want-of-room a f s h
 
--- an input that the table refuses is refused so, whatever room is lent
-pub refused-when-the-table-says : {i : Input} {r : Refusal} {before after : List ℕ} {answer : Said Figures} →
-    Refused i r → Promised i before answer after → answer ≡ refusal r
-refused-when-the-table-says r p = case-of-refused r (promised-case p)
+-- and what the table refuses is refused so
+table-case : {i : Input} {before after : List ℕ} {n p : ℕ} {answer : Said Figures} →
+    By-table i before n p → Case i before answer after → answer ≡ refused n p
+table-case (for-the-input r) c = cases-once c (of-input r) .0
+table-case (for-want-of-room a f s h) c = cases-once c (of-form a f s (no-room h)) .0
+
+-- "a numbered refusal from our table, given exactly when the table says"
+pub refused-exactly-when-the-table-says : {i : Input} {before after : List ℕ} {n p : ℕ} {answer : Said Figures} →
+    Promised i before answer after → (answer ≡ refused n p) ↔ By-table i before n p
+refused-exactly-when-the-table-says {i} {before} {after} {n} {p} {answer} promise = (
+  (λ (e : answer ≡ refused n p). case-by-table (subst (λ (said : Said Figures). Case i before said after) e (promised-case promise))),
+  (λ (t : By-table i before n p). table-case t (promised-case promise)),
+)

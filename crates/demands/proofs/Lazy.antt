@@ -27,9 +27,10 @@ use Rattle.accept.specs.Accept.{Accepted-record, In-limits, coefficients, in-li
 use Rattle.squeeze.specs.String.{squeezed}
 use Rattle.gates.specs.Gates as Gates
 use Rattle.demands.specs.Input.{Input, a-string, a-record, Promised, of-string, of-record, Accepted}
+use Rattle.demands.specs.Answer.{form-in}
 use Rattle.demands.specs.Call.{Call, Keeps}
 use Rattle.demands.proofs.First.{answers-once}
-use Rattle.demands.proofs.Second.{form-in, form-has-the-matrix}
+use Rattle.demands.proofs.Second.{form-has-the-matrix}
 
 -- the texts TT and S
 abbrev TT : List ℕ
@@ -146,12 +147,12 @@ module _ (call : Call) (keeps : Keeps call) where
   writing-one-fixed-form f lazy = different-lengths (sym (says-of-nothing (0 ∷ f)) ∙ (lazy [] (0 ∷ f) nothing-accepted (omega arith) ∙ (sym (lazy TT (0 ∷ f) TT-accepted (omega arith)) ∙ says-of-TT 0 f)))
 
   -- "one that copies the string out and calls it normal"
-  pub copying-the-string : ((text before : List ℕ) → Accepted-string text → call .answer (a-string text) before ≡ accepted (figures-of text)) → ⊥
-  copying-the-string lazy = one-is-not-two (same-length (sym (says-of-TT 0 []) ∙ lazy TT (0 ∷ []) TT-accepted))
+  pub copying-the-string : ((text before : List ℕ) → Accepted-string text → length text ≤ length before → call .answer (a-string text) before ≡ accepted (figures-of text)) → ⊥
+  copying-the-string lazy = one-is-not-two (same-length (sym (says-of-TT 0 (0 ∷ [])) ∙ lazy TT (0 ∷ 0 ∷ []) TT-accepted (omega arith)))
 
   -- "one that leaves the buffer alone and says ok"
-  pub leaving-the-buffer-alone : ((i : Input) (before : List ℕ) → call .after i before ≡ before) → ⊥
-  leaving-the-buffer-alone lazy = byte-is-not-S (sym (lazy (a-string TT) (0 ∷ [])) ∙ leaves-of-TT 0 [])
+  pub leaving-the-buffer-alone : ((i : Input) (before : List ℕ) (x : Figures) → call .answer i before ≡ accepted x → call .after i before ≡ before) → ⊥
+  leaving-the-buffer-alone lazy = byte-is-not-S (sym (lazy (a-string TT) (0 ∷ []) _ (says-of-TT 0 [])) ∙ leaves-of-TT 0 [])
 
   -- "one that reports a T-count or H-count not found in its text"
   pub inventing-a-t-count : (i : Input) (m : Matrix) (before : List ℕ) (x : Figures) → Accepted i m → call .answer i before ≡ accepted x →

@@ -15,7 +15,7 @@ use Rattle.matrix.proofs.Same.{same-sym, same-trans, same-of-equal}
 use Rattle.matrix.proofs.Unitary.{unitary-matrix-of}
 use Rattle.form.specs.Form.{Form}
 use Rattle.form.specs.Count.{t-count, h-count}
-use Rattle.form.proofs.Count.{form-is-letters, form-is-short}
+use Rattle.form.proofs.Count.{form-is-letters}
 use Rattle.answer.specs.declared.Figures.{Figures}
 use Rattle.answer.specs.Refusal.{Said, accepted}
 use Rattle.answer.specs.Written.{no-room, room, figures-of}
@@ -26,23 +26,11 @@ use Rattle.letter.proofs.String.{string-refused-or-accepted}
 use Rattle.accept.specs.Accept.{Inside}
 use Rattle.expand.specs.Expand.{String-to-matrix, refused-string, high-least-exponent, least-record}
 use Rattle.demands.specs.Input.{Input, a-record, Promised, Accepted, string, matrix, frame}
+use Rattle.demands.specs.Answer.{form-in, Formed, Room, Taken}
 use Rattle.demands.proofs.Cases.{Case, of-input, of-form, promised-case, refused-or-accepted, accepted-once}
 use Rattle.unique.proofs.Unique.{forms-are-unique}
-use Rattle.extend.proofs.Exists.{form-exists}
+use Rattle.extend.proofs.Exists.{form-exists, form-length}
 use Rattle.complete.proofs.Complete.{complete}
-
--- an answer with a form: the bytes at the start of the buffer
-unfoldable pub form-in : Figures → List ℕ → List ℕ
-form-in x after = take (x .length) after
-
--- what an accepted answer says of an input of matrix m
-pub record Formed (m : Matrix) (before : List ℕ) (x : Figures) (after : List ℕ) : Type 0 where
-  pub form : Form (form-in x after)
-  pub same : Same (matrix-of (form-in x after)) m
-  pub length : x .length ≡ length (form-in x after)
-  pub tcount : x .tcount ≡ t-count (form-in x after)
-  pub hcount : x .hcount ≡ h-count (form-in x after)
-  pub rest : drop (x .length) after ≡ drop (x .length) before
 
 -- a form that stands at the start of the buffer is what the answer speaks of
 stands-in : {f before after : List ℕ} {x : Figures} → Stands f before x after → form-in x after ≡ f
@@ -68,15 +56,6 @@ case-formed a (of-form b f s p) = formed f (same-trans s (same-of-equal (accepte
 -- "The form has the same exact matrix as what went in, phase included", and the figures are those of its text
 pub form-has-the-matrix : {i : Input} {m : Matrix} {before after : List ℕ} {x : Figures} → Accepted i m → Promised i before (accepted x) after → Formed m before x after
 form-has-the-matrix a p = case-formed a (promised-case p)
-
--- enough room for a form of the matrix m
-pub record Room (m : Matrix) (before : List ℕ) : Type 0 where
-  pub enough : (f : List ℕ) → Form f → Same (matrix-of f) m → length f ≤ length before
-
--- the answer is a form
-pub record Taken (answer : Said Figures) : Type 0 where
-  pub figures : Figures
-  pub taken : answer ≡ accepted figures
 
 case-taken : {i : Input} {m : Matrix} {before after : List ℕ} {answer : Said Figures} → Accepted i m → Room m before → Case i before answer after → Taken answer
 case-taken a enough (of-input r) = absurd (refused-or-accepted r a)
@@ -117,11 +96,7 @@ few-ts m u g form same =
 form-is-accepted : (m : Matrix) → Unitary m → m .exponent ≤ exponent-limit → (g : List ℕ) → Form g → Same (matrix-of g) m → Accepted-string g
 form-is-accepted m u h g form same =
     let ts = few-ts m u g form same in
-    let short = short-form form in
-    record { within = omega arith; letters = form-is-letters form }
-  where
-    short-form : Form g → length g ≤ 3 * t-count g + 13
-    short-form f = subst (λ (t : List ℕ). length t ≤ 3 * t-count t + 13) (sym (f .spelled)) (form-is-short (f .parts))
+    record { within = omega (arith, form-length form); letters = form-is-letters form }
 
 -- what string to matrix answers of a text that means m
 gives-back : {m : Matrix} {g : List ℕ} {answer : Said Matrix} →

@@ -1,7 +1,7 @@
 -- The third demand: "For any two accepted inputs, strings or matrices, written into enough room: they get the same form,
 -- byte for byte, exactly when their matrices are equal. And no string over our seven letters, of any length whatever, with
 -- that matrix holds fewer T's than the form." Strings, records and frames may be mixed. Assumes nothing.
-use mathlib.Core.Path.{_≡_, ap, sym, subst}
+use mathlib.Core.Path.{_≡_, sym, subst}
 use mathlib.Core.List.{List}
 use mathlib.Core.Logic.{_↔_}
 use Prim.Native.Nat.{ℕ, _≤_}
@@ -13,7 +13,8 @@ use Rattle.form.specs.Count.{t-count}
 use Rattle.answer.specs.declared.Figures.{Figures}
 use Rattle.answer.specs.Refusal.{accepted}
 use Rattle.demands.specs.Input.{Input, Promised, Accepted}
-use Rattle.demands.proofs.Second.{form-in, form-has-the-matrix}
+use Rattle.demands.specs.Answer.{form-in}
+use Rattle.demands.proofs.Second.{form-has-the-matrix}
 use Rattle.unique.proofs.Unique.{forms-are-unique}
 use Rattle.extend.proofs.Exists.{form-exists}
 

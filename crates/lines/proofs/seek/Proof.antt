@@ -8,7 +8,6 @@ use mathlib.Core.Path.{_≡_, subst}
 use lib.ListN.{length}
 use denote.Ref.{now}
 use Rattle.lines.specs.Progress.{Inside, Ready}
-use Rattle.lines.specs.declared.Step.the-variants.{Again}
 use Rattle.lines.proofs.Within.{Turned, turn-inside, turned-more}
 use Rattle.lines.proofs.seek.Statement.{statement}
 use Rattle.lines.proofs.seek.Tie as tie

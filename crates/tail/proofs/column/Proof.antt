@@ -1,5 +1,4 @@
 -- `tail::column` meets its contract. Assumes nothing.
-use borrow.Author.Needs.{needs}
 use Rattle.tail.proofs.Columns.{column-found}
 use Rattle.tail.proofs.column.Statement.{statement}
 use Rattle.tail.proofs.column.Tie as tie
