@@ -1,20 +1,19 @@
--- The limits on coefficients: what the test says, where a list first leaves them, and that the answers exclude each other.
--- Assumes nothing.
-use mathlib.Core.Path.{_≡_, refl, sym, _∙_, ap, subst}
-use mathlib.Core.Bool.{Bool, true, false, not, cond, _&&_, true≢false, false≢true}
-use mathlib.Core.List.{List, [], _∷_}
-use Prim.Native.Nat.{ℕ, suc, _≤_, _<_}
+-- The limits on coefficients: what the test says, and what a search for a wide one tells. Assumes nothing.
+use mathlib.Core.Path.{_≡_, refl, sym, _∙_, ap}
+use mathlib.Core.Bool.{Bool, true, false, not, _&&_, false≢true}
+use mathlib.Core.List.{List}
+use Prim.Native.Nat.{ℕ, _≤_, _<_}
 use native.Mathlib.Omega.{arith}
 use borrow.Author.Tests.{leb-true, leb-false, le-ltb, lt-ltb}
 use lib.Dec.{leb, ltb}
 use lib.IntN.{ℤ, pos, negsuc, negℤ}
-use lib.ListN.{length, getD, drop, drop-of-length-le}
-use lib.Seq.{drop-cons}
+use lib.ListN.{length}
 use lib.Signed.{ltZ, leZ}
+use Rattle.whole.proofs.List.{fails-within}
 use Rattle.ring.specs.Bounds.{Bounded}
 use Rattle.answer.specs.Limits.{coefficient-limit}
-use Rattle.accept.specs.Accept.{in-limit, In-limits, none, more, First-wide, here, later}
-use Rattle.accept.specs.Wide.{first-wide}
+use Rattle.accept.specs.Accept.{in-limit, In-limits, First-wide}
+use Rattle.accept.specs.Wide.{Search, wide, all-inside}
 
 -- ---- the test
 not-below : (a b : ℕ) → leb a b ≡ not (ltb b a)
@@ -53,54 +52,11 @@ unfolding in-limit
 bounded-in-limit (pos n) e = record { size = leb-true n coefficient-limit (and-right true _ e) }
 bounded-in-limit (negsuc n) e = record { size = omega (arith, leb-true n _ (and-left _ true e)) }
 
--- ---- the first coefficient beyond its limit
-first-wide-inside : (z : ℤ) (rest : List ℤ) → in-limit z ≡ true → first-wide (z ∷ rest) ≡ suc (first-wide rest)
-unfolding first-wide
-first-wide-inside z rest e = ap (λ (t : Bool). cond t (suc (first-wide rest)) 0) e
+-- ---- what a search gives
+pub wide-found : {list : List ℤ} {index : ℕ} → Search list index → index < length list → First-wide list index
+wide-found (wide found) h = found
+wide-found (all-inside inside) h = absurd (omega arith)
 
-first-wide-here : (z : ℤ) (rest : List ℤ) → in-limit z ≡ false → first-wide (z ∷ rest) ≡ 0
-unfolding first-wide
-first-wide-here z rest e = ap (λ (t : Bool). cond t (suc (first-wide rest)) 0) e
-
--- the same at a place of a list
-pub first-wide-at : (l : List ℤ) (i : ℕ) → i < length l → in-limit (getD l i (pos 0)) ≡ false → first-wide (drop i l) ≡ 0
-first-wide-at l i h e = ap first-wide (drop-cons l i (pos 0) h) ∙ first-wide-here (getD l i (pos 0)) (drop (suc i) l) e
-
-pub first-wide-past :
-    (l : List ℤ) (i : ℕ) → i < length l → in-limit (getD l i (pos 0)) ≡ true → first-wide (drop i l) ≡ suc (first-wide (drop (suc i) l))
-first-wide-past l i h e = ap first-wide (drop-cons l i (pos 0) h) ∙ first-wide-inside (getD l i (pos 0)) (drop (suc i) l) e
-
-pub first-wide-end : (l : List ℤ) (i : ℕ) → length l ≤ i → first-wide (drop i l) ≡ 0
-unfolding first-wide
-first-wide-end l i h = ap first-wide (drop-of-length-le l h)
-
-pub wide-found : (l : List ℤ) → first-wide l < length l → First-wide l (first-wide l)
-unfolding first-wide
-wide-found [] h = absurd (omega arith)
-wide-found (z ∷ rest) h = by (in-limit z) refl (wide-found rest)
-  where
-    by :
-        (t : Bool) → in-limit z ≡ t → (first-wide rest < length rest → First-wide rest (first-wide rest)) →
-        First-wide (z ∷ rest) (first-wide (z ∷ rest))
-    by true e found =
-        subst (First-wide (z ∷ rest)) (sym (first-wide-inside z rest e)) (later e (found (omega (arith, first-wide-inside z rest e))))
-    by false e found = subst (First-wide (z ∷ rest)) (sym (first-wide-here z rest e)) (here e)
-
-pub none-wide : (l : List ℤ) → length l ≤ first-wide l → In-limits l
-none-wide [] h = none
-none-wide (z ∷ rest) h = by (in-limit z) refl (none-wide rest)
-  where
-    by : (t : Bool) → in-limit z ≡ t → (length rest ≤ first-wide rest → In-limits rest) → In-limits (z ∷ rest)
-    by true e inside = more e (inside (omega (arith, first-wide-inside z rest e)))
-    by false e inside = absurd (omega (arith, first-wide-here z rest e))
-
--- ---- the answers exclude each other
-pub first-wide-once : {l : List ℤ} {i j : ℕ} → First-wide l i → First-wide l j → i ≡ j
-first-wide-once (here e) (here f) = refl
-first-wide-once (here e) (later f h) = absurd (true≢false (sym f ∙ e))
-first-wide-once (later e g) (here f) = absurd (true≢false (sym e ∙ f))
-first-wide-once (later e g) (later f h) = ap suc (first-wide-once g h)
-
-pub inside-not-wide : {l : List ℤ} {i : ℕ} → In-limits l → First-wide l i → ⊥
-inside-not-wide (more e s) (here f) = true≢false (sym e ∙ f)
-inside-not-wide (more e s) (later f h) = inside-not-wide s h
+pub none-wide : {list : List ℤ} {index : ℕ} → Search list index → length list ≤ index → In-limits list
+none-wide (wide found) h = absurd (omega (arith, fails-within found))
+none-wide (all-inside inside) h = inside

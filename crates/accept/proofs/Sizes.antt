@@ -3,13 +3,14 @@ use Prim.Native.Nat.{_^_}
 use mathlib.Core.List.{List, _∷_}
 use lib.Dec.{lit≤}
 use lib.IntN.{ℤ}
+use Rattle.whole.proofs.List.{every-first, every-rest}
 use Rattle.ring.specs.declared.Element.{Element}
 use Rattle.ring.specs.Element.{size-whole, size-root2}
 use Rattle.ring.specs.Bounds.{Bounded, Small, Factors}
 use Rattle.ring.proofs.Bounds.{bounded-sum, bounded-negation, bounded-product, bounded-more}
 use Rattle.matrix.specs.declared.Matrix.{Matrix}
 use Rattle.answer.specs.Limits.{coefficient-limit}
-use Rattle.accept.specs.Accept.{In-limits, more, coefficients, Inside}
+use Rattle.accept.specs.Accept.{In-limits, coefficients, Inside}
 use Rattle.accept.proofs.Limits.{bounded-in-limit}
 
 pub size-whole-bounded : {x : Element} → Small coefficient-limit x → Bounded (2 ^ 42) (size-whole x)
@@ -36,22 +37,19 @@ pub record Small-entries (m : Matrix) : Type 0 where
   pub bottom-right : Small coefficient-limit (m .bottom .right)
 
 head-small : {z : ℤ} {rest : List ℤ} → In-limits (z ∷ rest) → Bounded coefficient-limit z
-head-small (more {z = z} e h) = bounded-in-limit z e
-
-tail-small : {z : ℤ} {rest : List ℤ} → In-limits (z ∷ rest) → In-limits rest
-tail-small (more e h) = h
+head-small {z} h = bounded-in-limit z (every-first h)
 
 -- the element that stands first in a list of coefficients, and what follows it
 first-small : {x : Element} {rest : List ℤ} → In-limits (x .a0 ∷ x .a1 ∷ x .a2 ∷ x .a3 ∷ rest) → Small coefficient-limit x
 first-small h = record {
   a0 = head-small h;
-  a1 = head-small (tail-small h);
-  a2 = head-small (tail-small (tail-small h));
-  a3 = head-small (tail-small (tail-small (tail-small h)));
+  a1 = head-small (every-rest h);
+  a2 = head-small (every-rest (every-rest h));
+  a3 = head-small (every-rest (every-rest (every-rest h)));
 }
 
 rest-small : {a b c d : ℤ} {rest : List ℤ} → In-limits (a ∷ b ∷ c ∷ d ∷ rest) → In-limits rest
-rest-small h = tail-small (tail-small (tail-small (tail-small h)))
+rest-small h = every-rest (every-rest (every-rest (every-rest h)))
 
 pub small-entries : (m : Matrix) → Inside m → Small-entries m
 unfolding coefficients

@@ -1,10 +1,10 @@
 -- Document 01, "Limits" and "Refusals": which matrix records are accepted, and the refusals 4, 5, 6 in their order.
-use Prim.Native.Nat.{ℕ, suc, _<_, _≤_}
+use Prim.Native.Nat.{ℕ, _<_, _≤_}
 use mathlib.Core.List.{List, [], _∷_}
-use mathlib.Core.Bool.{Bool, true, false, _&&_}
-use mathlib.Core.Path.{_≡_}
+use mathlib.Core.Bool.{Bool, _&&_}
 use lib.IntN.{ℤ, pos, negℤ}
 use lib.Signed.{leZ}
+use Rattle.whole.specs.List.{All-pass, First-failing}
 use Rattle.matrix.specs.declared.Matrix.{Matrix}
 use Rattle.matrix.specs.Matrix.{Unitary}
 use Rattle.answer.specs.declared.Refusal.{Refusal}
@@ -26,14 +26,12 @@ coefficients m =
 unfoldable pub in-limit : ℤ → Bool
 in-limit z = leZ (negℤ (pos coefficient-limit)) z && leZ z (pos coefficient-limit)
 
-pub data In-limits : List ℤ → Type 0 where
-  none : In-limits []
-  more : {z : ℤ} {rest : List ℤ} → in-limit z ≡ true → In-limits rest → In-limits (z ∷ rest)
+abbrev pub In-limits : List ℤ → Type 0
+In-limits list = All-pass in-limit list
 
 -- "coefficient beyond its limit": the index of the first
-pub data First-wide : List ℤ → ℕ → Type 0 where
-  here : {z : ℤ} {rest : List ℤ} → in-limit z ≡ false → First-wide (z ∷ rest) 0
-  later : {z : ℤ} {rest : List ℤ} {i : ℕ} → in-limit z ≡ true → First-wide rest i → First-wide (z ∷ rest) (suc i)
+abbrev pub First-wide : List ℤ → ℕ → Type 0
+First-wide list index = First-failing in-limit list index
 
 -- a record inside the limits
 pub record Inside (m : Matrix) : Type 0 where

@@ -1,11 +1,11 @@
--- Where a list of coefficients first leaves the limits.
-use Prim.Native.Nat.{ℕ, suc}
-use mathlib.Core.Bool.{cond}
-use mathlib.Core.List.{List, [], _∷_}
+-- What a search for a coefficient beyond its limit gives.
+use Prim.Native.Nat.{ℕ}
+use mathlib.Core.List.{List}
 use lib.IntN.{ℤ}
-use Rattle.accept.specs.Accept.{in-limit}
+use lib.ListN.{length}
+use Rattle.accept.specs.Accept.{In-limits, First-wide}
 
 -- the index of the first coefficient beyond its limit, or how many there are
-unfoldable pub first-wide : List ℤ → ℕ
-first-wide [] = 0
-first-wide (z ∷ rest) = cond (in-limit z) (suc (first-wide rest)) 0
+pub data Search (list : List ℤ) : ℕ → Type 0 where
+  wide : {index : ℕ} → First-wide list index → Search list index
+  all-inside : In-limits list → Search list (length list)

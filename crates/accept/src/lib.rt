@@ -14,7 +14,7 @@ ghost use Rattle.ring.specs.Bounds.{Small};
 ghost use Rattle.matrix.specs.Matrix.{Unitary};
 ghost use Rattle.answer.specs.Limits.{exponent-limit, coefficient-limit};
 ghost use Rattle.accept.specs.Accept.{coefficients, in-limit, Inside, Judged};
-ghost use Rattle.accept.specs.Wide.{first-wide};
+ghost use Rattle.accept.specs.Wide.{Search};
 ghost use Rattle.accept.specs.Column.{Unit-column, column-product};
 
 // What is judged of a record.
@@ -62,7 +62,7 @@ fn in_limit(n: i64) -> bool
 
 // The index of the first coefficient beyond its limit, or how many there are.
 fn first_wide(list: &[i64]) -> usize
-    ensures { λ r. ⌜ r ≡ first-wide (now (list .entry)) ⌝ }
+    ensures { λ r. ⌜ Search (now (list .entry)) r ⌝ }
 {
     let mut i = 0;
     while i < list.len() {

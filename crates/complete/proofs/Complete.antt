@@ -8,6 +8,8 @@ use native.Mathlib.Omega.{arith}
 use lib.Dec.{eqb}
 use lib.IntN.{pos, _+ℤ_, _-ℤ_}
 use lib.ListN.{replicate}
+use Rattle.whole.specs.List.{none, more}
+use Rattle.whole.proofs.List.{every-join, every-replicate}
 use Rattle.whole.proofs.Solver.{var, con, _⊕_, _⊗_, ⊖_, combine, given, done}
 use Rattle.ring.specs.declared.Element.{Element}
 use Rattle.ring.specs.Element.{one, omega2, sum, product, multiple, turned, negation, conjugate, size-whole, size-root2, root2-power}
@@ -20,7 +22,7 @@ use Rattle.matrix.proofs.Times.{matrix-of-append}
 use Rattle.matrix.proofs.Same.{same-of-equal, same-trans, same-times-left}
 use Rattle.matrix.proofs.Unitary.{isometry-of-unitary, unitary-same, unitary-matrix-of}
 use Rattle.form.specs.Count.{t-count}
-use Rattle.form.proofs.Count.{t-count-append, t-count-replicate, letters-append, letters-replicate}
+use Rattle.form.proofs.Count.{t-count-append, t-count-replicate}
 use Rattle.complete.specs.declared.Rest.{Rest}
 use Rattle.complete.specs.declared.Real.{Real}
 use Rattle.complete.specs.Vector.{number, real, vector-of, two, Guided}
@@ -198,37 +200,37 @@ word-T's (suc n) r =
 -- ---- its bytes are letters
 letters-if-taken : (t : Bool) (b : ℕ) → is-letter b ≡ true → Letters (if-taken t b)
 unfolding if-taken
-letters-if-taken true b e = Letters.more e Letters.none
-letters-if-taken false b e = Letters.none
+letters-if-taken true b e = more e none
+letters-if-taken false b e = none
 
 syllable-letters : (r : Rest) → Letters (syllable-taken r)
 unfolding syllable-taken is-letter
 syllable-letters r =
     let s = past-S r in
     let h = past-H s in
-    letters-append (letters-if-taken (odd-x r && odd-z r) S refl)
-    (letters-append (letters-if-taken (odd-y s && odd-z s) H refl) (letters-if-taken (odd-x h && odd-y h) T refl))
+    every-join (letters-if-taken (odd-x r && odd-z r) S refl)
+    (every-join (letters-if-taken (odd-y s && odd-z s) H refl) (letters-if-taken (odd-x h && odd-y h) T refl))
 
 axis-letters : (r : Rest) → Letters (axis-taken r)
 unfolding axis-taken is-letter
 axis-letters r =
     let s = off-y r in
     let h = off-x s in
-    letters-append (letters-if-taken (odd-y r) S refl)
-    (letters-append (letters-if-taken (odd-x s) H refl) (letters-if-taken (downward h) X refl))
+    every-join (letters-if-taken (odd-y r) S refl)
+    (every-join (letters-if-taken (odd-x s) H refl) (letters-if-taken (downward h) X refl))
 
 diagonal-letters : (m : Matrix) → Letters (diagonal-text m)
 unfolding diagonal-text phases-text is-letter
 diagonal-letters m =
     let j = phase (m .top .left) in
     let turned = turn j (phase (m .bottom .right)) in
-    letters-append (letters-replicate (turned % 2) T refl)
-    (letters-append (letters-replicate (turned / 2) S refl) (letters-replicate j W refl))
+    every-join (every-replicate (turned % 2) T refl)
+    (every-join (every-replicate (turned / 2) S refl) (every-replicate j W refl))
 
 pub word-letters : (n : ℕ) (r : Rest) → Letters (word-below n r)
 unfolding word-below
-word-letters zero r = letters-append (axis-letters r) (diagonal-letters (upright r .matrix))
-word-letters (suc n) r = letters-append (syllable-letters r) (word-letters n (past-syllable r))
+word-letters zero r = every-join (axis-letters r) (diagonal-letters (upright r .matrix))
+word-letters (suc n) r = every-join (syllable-letters r) (word-letters n (past-syllable r))
 
 -- ---- every unitary record is, in meaning, the matrix of a letter list
 pub complete : (m : Matrix) → Unitary m → (w : List ℕ) × Letters w × Same (matrix-of w) m × (t-count w ≤ 2 * m .exponent + 1)

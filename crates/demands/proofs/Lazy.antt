@@ -6,10 +6,12 @@ use mathlib.Core.List.{List, [], _∷_}
 use Prim.Native.Nat.{ℕ, _<_, _≤_, zero-le, suc-le-suc}
 use native.Mathlib.Omega.{arith}
 use lib.ListN.{length}
+use Rattle.whole.specs.List.{none, more}
+use Rattle.whole.proofs.List.{every-first, every-rest}
 use Rattle.ring.specs.Element.{one, negation}
 use Rattle.matrix.specs.declared.Matrix.{Matrix}
 use Rattle.matrix.specs.Matrix.{Same}
-use Rattle.matrix.specs.Letter.{is-letter, none, more, H, S, T, gate, gate-H, matrix-of}
+use Rattle.matrix.specs.Letter.{is-letter, H, S, T, gate, gate-H, matrix-of}
 use Rattle.matrix.specs.Text.{bytes}
 use Rattle.matrix.proofs.Times.{matrix-of-letter}
 use Rattle.matrix.proofs.Same.{same-of-equal}
@@ -17,13 +19,13 @@ use Rattle.matrix.proofs.Unitary.{unitary-letter}
 use Rattle.form.specs.Tail.{tail-text, head-text}
 use Rattle.form.specs.Form.{Form, Form-of, form-text, front-text, syllables-text}
 use Rattle.form.specs.Count.{t-count, h-count}
-use Rattle.form.specs.Worked.{table, Every}
+use Rattle.form.specs.Worked.{table}
 use Rattle.form.proofs.Worked.{worked-cases}
 use Rattle.answer.specs.declared.Figures.{Figures}
 use Rattle.answer.specs.Refusal.{Said, accepted, refused}
 use Rattle.answer.specs.Written.{figures-of, put, room}
 use Rattle.letter.specs.String.{Accepted-string}
-use Rattle.accept.specs.Accept.{Accepted-record, In-limits, coefficients, in-limit}
+use Rattle.accept.specs.Accept.{Accepted-record, coefficients, in-limit}
 use Rattle.squeeze.specs.String.{squeezed}
 use Rattle.gates.specs.Gates as Gates
 use Rattle.demands.specs.Input.{Input, a-string, a-record, Promised, of-string, of-record, Accepted}
@@ -41,12 +43,12 @@ just-S = S ∷ []
 
 -- two worked cases
 form-of-nothing : Form-of [] []
-unfolding table Every bytes
-form-of-nothing = worked-cases .0
+unfolding table bytes
+form-of-nothing = every-first worked-cases
 
 form-of-TT : Form-of TT just-S
-unfolding table Every bytes
-form-of-TT = worked-cases .1 .1 .1 .0
+unfolding table bytes
+form-of-TT = every-first (every-rest (every-rest (every-rest worked-cases)))
 
 nothing-accepted : Accepted-string []
 nothing-accepted = record { within = omega arith; letters = none }
@@ -72,10 +74,10 @@ unfolding gate gate-H is-letter coefficients in-limit one negation
 H-accepted = record {
   inside = record {
     exponent = omega arith;
-    coefficients = In-limits.more refl (In-limits.more refl (In-limits.more refl (In-limits.more refl
-        (In-limits.more refl (In-limits.more refl (In-limits.more refl (In-limits.more refl
-        (In-limits.more refl (In-limits.more refl (In-limits.more refl (In-limits.more refl
-        (In-limits.more refl (In-limits.more refl (In-limits.more refl (In-limits.more refl In-limits.none)))))))))))))));
+    coefficients = more refl (more refl (more refl (more refl
+        (more refl (more refl (more refl (more refl
+        (more refl (more refl (more refl (more refl
+        (more refl (more refl (more refl (more refl none)))))))))))))));
   };
   unitary = unitary-letter H refl;
 }

@@ -15,7 +15,7 @@ use Rattle.matrix.proofs.Same.{same-sym, same-trans, same-of-equal}
 use Rattle.matrix.proofs.Unitary.{unitary-matrix-of}
 use Rattle.form.specs.Form.{Form}
 use Rattle.form.specs.Count.{t-count, h-count}
-use Rattle.form.proofs.Count.{form-is-letters}
+use Rattle.form.proofs.Spelled.{form-is-letters}
 use Rattle.answer.specs.declared.Figures.{Figures}
 use Rattle.answer.specs.Refusal.{Said, accepted}
 use Rattle.answer.specs.Written.{no-room, room, figures-of}

@@ -8,14 +8,16 @@ use mathlib.Core.List.{List, [], _∷_, _++_}
 use mathlib.Core.Path.{_≡_, refl, sym, ap, _∙_}
 use lib.ListN.{length, take, drop, getD, replicate, take-append-drop}
 use lib.Seq.{drop-length, drop-cons}
+use Rattle.whole.proofs.List.{every-drop}
 use Rattle.matrix.specs.Matrix.{times, identity}
-use Rattle.matrix.specs.Letter.{S, W, X, gate, gate-H, gate-S, gate-T, gate-W, gate-X, matrix-of, Letters}
+use Rattle.matrix.specs.Letter.{S, W, X, gate, gate-H, gate-S, gate-T, gate-W, gate-X, matrix-of}
 use Rattle.matrix.proofs.Times.{matrix-of-append}
 use Rattle.matrix.proofs.Unitary.{unitary-matrix-of}
 use Rattle.form.specs.Tail.{tail-h, tail-b, tail-c, tail-a, head-text, tail-text}
 use Rattle.form.specs.Form.{Syllable, HT, SHT, Parts, Form, front-text, syllable-text, syllables-text, form-text}
 use Rattle.form.specs.Count.{t-count}
-use Rattle.form.proofs.Count.{t-count-form, form-is-letters}
+use Rattle.form.proofs.Count.{t-count-form}
+use Rattle.form.proofs.Spelled.{form-is-letters}
 use Rattle.expand.specs.Room.{t-limit, Roomy}
 
 -- the exponent of a text's matrix
@@ -94,11 +96,6 @@ form-exponent form = rw (form .spelled) (parts-exponent (form .parts))
 abbrev pub ending : ℕ → List ℕ → List ℕ
 ending n f = drop (length f - n) f
 
-letters-drop : (i : ℕ) {s : List ℕ} → Letters s → Letters (drop i s)
-letters-drop zero l = l
-letters-drop (suc i) Letters.none = Letters.none
-letters-drop (suc i) (Letters.more e l) = letters-drop i l
-
 exponent-drop : (i : ℕ) (f : List ℕ) → exponent-of (drop i f) ≤ exponent-of f
 exponent-drop i f = omega (arith, exponent-append (take i f) (drop i f), ap exponent-of (take-append-drop i f))
 
@@ -112,7 +109,7 @@ unfolding exponent-of
 ending-roomy {f} n form few =
     let i = length f - n in
     record {
-      unitary = unitary-matrix-of (drop i f) (letters-drop i (form-is-letters form));
+      unitary = unitary-matrix-of (drop i f) (every-drop i (form-is-letters form));
       low = omega (arith, exponent-drop i f, form-roomy form few .low);
     }
 

@@ -11,7 +11,7 @@ use Rattle.matrix.proofs.Unitary.{unitary-same, unitary-matrix-of}
 use Rattle.matrix.proofs.Least.{least-exists}
 use Rattle.form.specs.Form.{Form, Form-of}
 use Rattle.form.specs.Count.{t-count}
-use Rattle.form.proofs.Count.{form-is-letters}
+use Rattle.form.proofs.Spelled.{form-is-letters}
 use Rattle.answer.specs.declared.Refusal.the-variants.{HighLeastExponent}
 use Rattle.answer.specs.Refusal.{Said, refusal}
 use Rattle.letter.specs.String.{Accepted-string}

@@ -8,7 +8,8 @@ use mathlib.Core.Path.{_≡_, refl}
 use borrow.Author.Tests.{eqb-true, eqb-false}
 use lib.Dec.{eqb, lit<}
 use lib.ListN.{length}
-use Rattle.matrix.specs.Letter.{T, Letters, none, more, is-letter}
+use Rattle.whole.specs.List.{none, more}
+use Rattle.matrix.specs.Letter.{T, Letters, is-letter}
 use Rattle.form.specs.Tail.{tails, tail-h, head-text, tail-text}
 use Rattle.form.specs.Form.{Form, Form-of}
 use Rattle.form.specs.Count.{t-count}
@@ -84,7 +85,7 @@ extended-by :
     (f : List ℕ) × Form f × Extends (codes-text codes ++ tail-text n) w f
 extended-by {codes} n good n< none =
     let f = codes-text codes ++ tail-text n in (f, codes-form good n<, extends-none f)
-extended-by n good n< (more {b} letter rest) =
+extended-by n good n< (more {a = b} letter rest) =
     let step = next n b good n< letter (eqb b T) refl in
     let found = extended-by (step .tail) (step .good) (step .in-tails) rest in
     (found .0, found .1, extends-more (step .extends) (found .2))

@@ -1,13 +1,11 @@
 -- Whatever the promise of a call lets be said is legible in the answer word: each value fits in its bits.
 -- Assumes nothing.
-use Prim.Native.Nat.{ℕ, _≤_, _<_}
+use Prim.Native.Nat.{ℕ, _≤_}
 use native.Mathlib.Omega.{arith}
 use mathlib.Core.List.{List}
-use mathlib.Core.Path.{_≡_}
 use lib.ListN.{length}
+use Rattle.whole.proofs.List.{fails-within}
 use Rattle.matrix.specs.declared.Matrix.{Matrix}
-use Rattle.form.specs.Form.{Form}
-use Rattle.form.specs.Count.{t-count, h-count}
 use Rattle.form.proofs.Count.{t-count-within, h-count-within}
 use Rattle.answer.specs.declared.Figures.{Figures}
 use Rattle.answer.specs.declared.Refusal.{Refusal}
@@ -25,7 +23,7 @@ use Rattle.reader.specs.Reader.{Form-reader, reading-of}
 use Rattle.compare.specs.Compare.{Verdict, Related, Comparison}
 use Rattle.expand.specs.Expand.{String-to-matrix}
 use Rattle.face.specs.Word.{Legible, Legible-refusal, Legible-figures, Legible-reading, Legible-record, Legible-verdict}
-use Rattle.face.proofs.Within.{bad-letter-within, wide-coefficient-within, bad-frame-within, form-of-string-within, form-of-record-within}
+use Rattle.face.proofs.Within.{wide-coefficient-within, bad-frame-within, form-of-string-within, form-of-record-within}
 
 abbrev Legible-of : Refusal → Type 0
 Legible-of r = Legible-refusal (number r) (place r)
@@ -34,7 +32,7 @@ Legible-of r = Legible-refusal (number r) (place r)
 
 string-refusal : {text : List ℕ} {r : Refusal} → Refused-string text r → Legible-of r
 string-refusal (Refused-string.too-long h) = omega arith
-string-refusal (Refused-string.bad-letter h bad) = omega (arith, bad-letter-within bad)
+string-refusal (Refused-string.bad-letter h bad) = omega (arith, fails-within bad)
 
 record-refusal : {m : Matrix} {r : Refusal} → Refused-record m r → Legible-of r
 record-refusal (Refused-record.high-exponent h) = omega arith
@@ -76,7 +74,7 @@ frame-to-form-legible (Frame-to-form.squeezed accepted form same put) =
 pub form-reader-legible : {text : List ℕ} {answer : Said Reading} → Form-reader text answer → Legible Legible-reading answer
 unfolding reading-of
 form-reader-legible (Form-reader.too-long h) = omega arith
-form-reader-legible (Form-reader.bad-letter h bad) = omega (arith, bad-letter-within bad)
+form-reader-legible (Form-reader.bad-letter h bad) = omega (arith, fails-within bad)
 form-reader-legible (Form-reader.not-form h letters not longest) = omega (arith, longest .within)
 form-reader-legible {text} (Form-reader.form h f) = omega (arith, t-count-within text, h-count-within text, f .in-tails)
 

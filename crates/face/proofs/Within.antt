@@ -1,48 +1,33 @@
 -- How large the places of refusals and the lengths of forms can be: a place lies within its text, its array or its frame;
 -- the form of an accepted string is within the form limit, and so is that of an accepted record. Assumes nothing.
-use Prim.Native.Nat.{ℕ, suc, _+_, _*_, _≤_, _<_}
+use Prim.Native.Nat.{ℕ, _≤_, _<_}
 use native.Mathlib.Omega.{arith}
 use mathlib.Core.List.{List}
-use mathlib.Core.Path.{_≡_, refl}
-use lib.IntN.{ℤ}
 use lib.ListN.{length}
+use Rattle.whole.proofs.List.{fails-within}
 use Rattle.matrix.specs.declared.Matrix.{Matrix}
 use Rattle.matrix.specs.Matrix.{Same}
-use Rattle.matrix.specs.Letter.{matrix-of, First-bad}
+use Rattle.matrix.specs.Letter.{matrix-of}
 use Rattle.matrix.proofs.Same.{same-refl, same-sym, same-trans}
 use Rattle.form.specs.Form.{Form, Form-of}
-use Rattle.form.specs.Count.{t-count}
 use Rattle.answer.specs.Limits.{form-limit, frame-length}
 use Rattle.letter.specs.String.{Accepted-string}
 use Rattle.accept.specs.Accept.{coefficients, First-wide, Accepted-record}
-use Rattle.frame.specs.Digit.{First-bad-digit}
 use Rattle.frame.specs.Calls.{Bad-frame}
 use Rattle.extend.proofs.Exists.{form-length}
 use Rattle.form.proofs.Count.{t-count-within}
 use Rattle.unique.proofs.Normal.{no-fewer-ts}
 use Rattle.complete.proofs.Complete.{complete}
 
-pub bad-letter-within : {s : List ℕ} {p : ℕ} → First-bad s p → p < length s
-bad-letter-within (First-bad.here e) = omega arith
-bad-letter-within (First-bad.later e rest) = omega (arith, bad-letter-within rest)
-
-first-wide-within : {s : List ℤ} {p : ℕ} → First-wide s p → p < length s
-first-wide-within (First-wide.here e) = omega arith
-first-wide-within (First-wide.later e rest) = omega (arith, first-wide-within rest)
-
 -- "index 0 to 15"
 pub wide-coefficient-within : (m : Matrix) {i : ℕ} → First-wide (coefficients m) i → i < 16
 unfolding coefficients
-wide-coefficient-within m wide = first-wide-within wide
-
-bad-digit-within : {s : List ℕ} {p : ℕ} → First-bad-digit s p → p < length s
-bad-digit-within (First-bad-digit.here e) = omega arith
-bad-digit-within (First-bad-digit.later e rest) = omega (arith, bad-digit-within rest)
+wide-coefficient-within m wide = fails-within wide
 
 pub bad-frame-within : {text : List ℕ} {p : ℕ} → Bad-frame text p → p ≤ frame-length
 bad-frame-within (Bad-frame.short h) = omega arith
 bad-frame-within (Bad-frame.long h) = omega arith
-bad-frame-within (Bad-frame.bad-digit e bad) = omega (arith, bad-digit-within bad)
+bad-frame-within (Bad-frame.bad-digit e bad) = omega (arith, fails-within bad)
 
 -- "forms reach at most 12,301 bytes"
 pub form-of-string-within : {text f : List ℕ} → Accepted-string text → Form-of text f → length f ≤ form-limit

@@ -1,4 +1,4 @@
--- The counts of a form's text: how many T's and H's and how many bytes its parts hold, and that all are letters.
+-- The counts of a form's text: how many T's and H's and how many bytes its parts hold.
 -- A form's T-count is one for its front and one for each syllable, its H-count is the number of its syllables, and its
 -- length is at most 3 times its T-count and 13. Assumes nothing.
 use Prim.Native.Nat.{ℕ, zero, suc, _+_, _*_, _≤_}
@@ -9,9 +9,9 @@ use mathlib.Core.List.{List, [], _∷_, _++_, append-assoc}
 use mathlib.Core.Path.{_≡_, refl, sym, ap, _∙_}
 use lib.Dec.{eqb}
 use lib.ListN.{length, replicate, length-append, length-replicate}
-use Rattle.matrix.specs.Letter.{H, S, T, W, X, Letters, is-letter}
+use Rattle.matrix.specs.Letter.{H, S, T, W, X}
 use Rattle.form.specs.Tail.{tail-h, tail-b, tail-c, tail-a, head-text, tail-text}
-use Rattle.form.specs.Form.{Syllable, HT, SHT, Parts, Form, syllable-text, syllables-text, front-text, form-text}
+use Rattle.form.specs.Form.{Syllable, HT, SHT, Parts, syllable-text, syllables-text, front-text, form-text}
 use Rattle.form.specs.Count.{t-count, begins-with-T, h-count}
 
 -- T-count of a text and of its parts
@@ -169,50 +169,3 @@ form-is-short p =
       length-syllables (p .syllables),
       tail-is-short (p .tail),
     )
-
--- every form is made of letters
-
-pub letters-append : {s t : List ℕ} → Letters s → Letters t → Letters (s ++ t)
-letters-append Letters.none m = m
-letters-append (Letters.more e l) m = Letters.more e (letters-append l m)
-
-pub letters-replicate : (n b : ℕ) → is-letter b ≡ true → Letters (replicate n b)
-letters-replicate zero b e = Letters.none
-letters-replicate (suc n) b e = Letters.more e (letters-replicate n b e)
-
-pub letters-head : (h : ℕ) → Letters (head-text h)
-unfolding head-text is-letter
-letters-head zero = Letters.none
-letters-head (suc zero) = Letters.more refl Letters.none
-letters-head (suc (suc h)) = Letters.more refl (Letters.more refl Letters.none)
-
-pub letters-tail : (n : ℕ) → Letters (tail-text n)
-unfolding tail-text is-letter
-letters-tail n =
-    letters-append (letters-head (tail-h n))
-    (letters-append (letters-replicate (tail-b n) X refl)
-    (letters-append (letters-replicate (tail-c n) S refl) (letters-replicate (tail-a n) W refl)))
-
-pub letters-syllable : (s : Syllable) → Letters (syllable-text s)
-unfolding syllable-text is-letter
-letters-syllable HT = Letters.more refl (Letters.more refl Letters.none)
-letters-syllable SHT = Letters.more refl (Letters.more refl (Letters.more refl Letters.none))
-
-pub letters-syllables : (ss : List Syllable) → Letters (syllables-text ss)
-unfolding syllables-text
-letters-syllables [] = Letters.none
-letters-syllables (s ∷ ss) = letters-append (letters-syllable s) (letters-syllables ss)
-
-pub letters-front : (b : Bool) → Letters (front-text b)
-unfolding front-text is-letter
-letters-front true = Letters.more refl Letters.none
-letters-front false = Letters.none
-
-pub letters-form : (p : Parts) → Letters (form-text p)
-unfolding form-text
-letters-form p =
-    letters-append (letters-front (p .front)) (letters-append (letters-syllables (p .syllables)) (letters-tail (p .tail)))
-
--- the same of a text that is a form
-pub form-is-letters : {text : List ℕ} → Form text → Letters text
-form-is-letters f = rw (f .spelled) (letters-form (f .parts))

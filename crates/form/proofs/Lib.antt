@@ -1,4 +1,5 @@
 pub mod Count
+pub mod Spelled
 pub mod Every
 pub mod Grammar
 pub mod Prefix

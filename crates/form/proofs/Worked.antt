@@ -5,14 +5,15 @@ use mathlib.Core.Bool.{Bool, true, false, _&&_}
 use mathlib.Core.List.{List, [], _∷_}
 use Prim.Native.Nat.{ℕ}
 use lib.Dec.{T as Holds, eqb, eqb→eq, ltb, ltb→lt}
+use Rattle.whole.specs.List.{Every, none, more}
 use Rattle.ring.specs.Element.{nothing, one, omega as ω, omega2, root2, root2-power, sum, negation, multiple, turned, product}
 use Rattle.matrix.specs.Matrix.{identity, times}
 use Rattle.matrix.specs.Text.{bytes}
 use Rattle.matrix.specs.Letter.{matrix-of, gate, gate-H, gate-S, gate-T, gate-W, gate-X, gate-Y, gate-Z}
 use Rattle.matrix.proofs.Test.{both, whole-test, element-test, over-test, same-test, same-by-test}
 use Rattle.form.specs.Tail.{tails, tail-text, head-text}
-use Rattle.form.specs.Form.{form-text, front-text, syllables-text, syllable-text, Form-of}
-use Rattle.form.specs.Worked.{Row, table, Every}
+use Rattle.form.specs.Form.{form-text, front-text, syllables-text, syllable-text}
+use Rattle.form.specs.Worked.{Row, table, Right}
 
 -- two texts are the same
 text-test : List ℕ → List ℕ → Bool
@@ -33,7 +34,7 @@ row-test : Row → Bool
 row-test r =
     ltb (r .parts .tail) tails && (text-test (r .form) (form-text (r .parts)) && same-test (matrix-of (r .form)) (matrix-of (r .string)))
 
-row-right : (r : Row) → Holds (row-test r) → Form-of (r .string) (r .form)
+row-right : (r : Row) → Holds (row-test r) → Right r
 unfolding row-test
 row-right r h =
     let (in-tails, rest) = both (ltb (r .parts .tail) tails) _ h in
@@ -47,12 +48,12 @@ every-test : List Row → Bool
 every-test [] = true
 every-test (r ∷ rest) = row-test r && every-test rest
 
-every-right : (rows : List Row) → Holds (every-test rows) → Every rows
-unfolding every-test Every
-every-right [] h = tt
-every-right (r ∷ rest) h = let (first, others) = both (row-test r) (every-test rest) h in (row-right r first, every-right rest others)
+every-right : (rows : List Row) → Holds (every-test rows) → Every Right rows
+unfolding every-test
+every-right [] h = none
+every-right (r ∷ rest) h = let (first, others) = both (row-test r) (every-test rest) h in more (row-right r first) (every-right rest others)
 
 -- each string of the table has the form beside it
-pub worked-cases : Every table
+pub worked-cases : Every Right table
 unfolding table every-test row-test text-test bytes same-test over-test element-test whole-test form-text front-text syllables-text syllable-text tail-text head-text matrix-of gate gate-H gate-S gate-T gate-W gate-X gate-Y gate-Z identity times nothing one ω omega2 root2 root2-power sum negation multiple turned product
 worked-cases = every-right table tt

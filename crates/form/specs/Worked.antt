@@ -35,7 +35,6 @@ table =
     ∷ row "HTHT" "HTHT" false (HT ∷ HT ∷ []) 0
     ∷ []
 
--- what is said of each row of a table
-unfoldable pub Every : List Row → Type 0
-Every [] = Unit {0}
-Every (r ∷ rest) = Form-of (r .string) (r .form) × Every rest
+-- what is said of each row
+abbrev pub Right : Row → Type 0
+Right r = Form-of (r .string) (r .form)

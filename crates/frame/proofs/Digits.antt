@@ -5,13 +5,15 @@ use mathlib.Core.Bool.{Bool, true, false, cond, true≢false}
 use mathlib.Core.List.{List, [], _∷_, _++_}
 use mathlib.Core.Logic.{_⊎_, inl, inr}
 use Prim.Native.Nat.{ℕ, zero, suc, _+_, _-_, _*_, _/_, _%_, _^_, _≤_, _<_}
-use native.Mathlib.Nat.{not-suc-le-zero, le-of-suc-le-suc, pow-suc}
+use native.Mathlib.Nat.{pow-suc}
 use native.Mathlib.Omega.{arith}
 use borrow.Author.Tests.{lt-ltb, le-ltb, le-leb, lt-leb, ltb-true, ltb-false}
 use lib.Dec.{ltb}
 use lib.ListN.{length, take, drop, getD, length-append}
 use lib.Seq.{take-append-seam, drop-append-seam}
-use Rattle.frame.specs.Digit.{digit, is-digit, digits, Digits, First-bad-digit}
+use Rattle.whole.specs.List.{none, more}
+use Rattle.whole.proofs.List.{every-join}
+use Rattle.frame.specs.Digit.{digit, is-digit, digits, Digits}
 
 -- ---- one digit
 pub digit-low : (n : ℕ) → n < 10 → digit n ≡ 48 + n
@@ -90,53 +92,6 @@ low-value b e h = let r = low-range b e h in omega (arith, digit-low (b - 48) (o
 pub high-value : (b : ℕ) → is-digit b ≡ true → 58 ≤ b → b ≡ digit (b - 87)
 high-value b e h = let r = high-range b e h in omega (arith, digit-high (b - 87) (omega arith))
 
--- ---- texts of digits
--- one digit more
-pub digits-grow : (i : ℕ) (s : List ℕ) → i < length s → Digits (take i s) → is-digit (getD s i 0) ≡ true → Digits (take (suc i) s)
-digits-grow zero [] h p e = Digits.none
-digits-grow zero (b ∷ s) h p e = Digits.more e Digits.none
-digits-grow (suc i) [] h p e = Digits.none
-digits-grow (suc i) (b ∷ s) h (Digits.more l p) e = Digits.more l (digits-grow i s (le-of-suc-le-suc h) p e)
-
--- a byte that is no digit, after digits alone
-pub bad-after-digits : (i : ℕ) (s : List ℕ) → i < length s → Digits (take i s) → is-digit (getD s i 0) ≡ false → First-bad-digit s i
-bad-after-digits zero [] h p e = absurd (not-suc-le-zero h)
-bad-after-digits zero (b ∷ s) h p e = First-bad-digit.here e
-bad-after-digits (suc i) [] h p e = absurd (not-suc-le-zero h)
-bad-after-digits (suc i) (b ∷ s) h (Digits.more l p) e = First-bad-digit.later l (bad-after-digits i s (le-of-suc-le-suc h) p e)
-
--- a text of digits has no bad place, and the first bad place is one place
-pub digits-hold-none-bad : {s : List ℕ} {p : ℕ} → Digits s → First-bad-digit s p → ⊥
-digits-hold-none-bad (Digits.more l rest) (First-bad-digit.here e) = true≢false (sym l ∙ e)
-digits-hold-none-bad (Digits.more l rest) (First-bad-digit.later e bad) = digits-hold-none-bad rest bad
-
-pub first-bad-digit-once : {s : List ℕ} {p q : ℕ} → First-bad-digit s p → First-bad-digit s q → p ≡ q
-first-bad-digit-once (First-bad-digit.here e) (First-bad-digit.here f) = refl
-first-bad-digit-once (First-bad-digit.here e) (First-bad-digit.later f b) = absurd (true≢false (sym f ∙ e))
-first-bad-digit-once (First-bad-digit.later e a) (First-bad-digit.here f) = absurd (true≢false (sym e ∙ f))
-first-bad-digit-once (First-bad-digit.later e a) (First-bad-digit.later f b) = ap suc (first-bad-digit-once a b)
-
--- the digit at a place
-pub digit-at : (s : List ℕ) (i : ℕ) → Digits s → i < length s → is-digit (getD s i 0) ≡ true
-digit-at [] i d h = absurd (not-suc-le-zero h)
-digit-at (b ∷ s) zero (Digits.more e d) h = e
-digit-at (b ∷ s) (suc i) (Digits.more e d) h = digit-at s i d (le-of-suc-le-suc h)
-
--- parts of texts of digits, and two joined
-pub digits-take : (n : ℕ) (s : List ℕ) → Digits s → Digits (take n s)
-digits-take zero s d = Digits.none
-digits-take (suc n) [] d = Digits.none
-digits-take (suc n) (b ∷ s) (Digits.more e d) = Digits.more e (digits-take n s d)
-
-pub digits-drop : (n : ℕ) (s : List ℕ) → Digits s → Digits (drop n s)
-digits-drop zero s d = d
-digits-drop (suc n) [] d = Digits.none
-digits-drop (suc n) (b ∷ s) (Digits.more e d) = digits-drop n s d
-
-pub digits-join : (s t : List ℕ) → Digits s → Digits t → Digits (s ++ t)
-digits-join [] t d f = f
-digits-join (b ∷ s) t (Digits.more e d) f = Digits.more e (digits-join s t d f)
-
 -- ---- numbers in digits
 pub digits-length : (k n : ℕ) → length (digits k n) ≡ k
 unfolding digits
@@ -145,10 +100,9 @@ digits-length (suc k) n = simp length-append (omega (arith, digits-length k (n /
 
 pub digits-are-digits : (k n : ℕ) → Digits (digits k n)
 unfolding digits
-digits-are-digits zero n = Digits.none
+digits-are-digits zero n = none
 digits-are-digits (suc k) n =
-    digits-join (digits k (n / 16)) (digit (n % 16) ∷ []) (digits-are-digits k (n / 16))
-    (Digits.more (digit-is-digit (n % 16) (omega arith)) Digits.none)
+    every-join (digits-are-digits k (n / 16)) (more (digit-is-digit (n % 16) (omega arith)) none)
 
 -- a number with one digit more
 pub digits-more : (k n d : ℕ) → d < 16 → digits (suc k) (n * 16 + d) ≡ digits k n ++ (digit d ∷ [])

@@ -4,6 +4,7 @@ use mathlib.Core.Path.{_≡_, refl, sym, _∙_, ap, subst}
 use mathlib.Core.List.{List}
 use Prim.Native.Nat.{ℕ}
 use native.Mathlib.Omega.{arith}
+use Rattle.whole.proofs.List.{passes-or-fails, fails-once}
 use Rattle.matrix.specs.declared.Matrix.{Matrix}
 use Rattle.answer.specs.declared.Refusal.{Refusal}
 use Rattle.answer.specs.declared.Refusal.the-variants.{BadFrame}
@@ -12,7 +13,6 @@ use Rattle.accept.specs.Accept.{Refused-record}
 use Rattle.accept.proofs.Judged.{refused-once, accepted-not-refused}
 use Rattle.frame.specs.Frame.{check-word, Spells}
 use Rattle.frame.specs.Calls.{Bad-frame, short, long, bad-digit, Refused-frame, bad-frame, bad-check-word, bad-record, Accepted-frame, Frame-to-matrix, refused-frame, accepted-frame, Matrix-to-frame, refused-record, no-room, framed}
-use Rattle.frame.proofs.Digits.{digits-hold-none-bad, first-bad-digit-once}
 use Rattle.frame.proofs.Spelled.{spells-length, spells-digits, spells-once}
 
 -- ---- refusal 9
@@ -25,13 +25,13 @@ bad-frame-once (long h) (long k) = refl
 bad-frame-once (long h) (bad-digit l b) = absurd (omega arith)
 bad-frame-once (bad-digit l a) (short k) = absurd (omega arith)
 bad-frame-once (bad-digit l a) (long k) = absurd (omega arith)
-bad-frame-once (bad-digit l a) (bad-digit m b) = first-bad-digit-once a b
+bad-frame-once (bad-digit l a) (bad-digit m b) = fails-once a b
 
 -- a text that spells a record is no bad frame
 spelled-not-bad : {text : List ℕ} {m : Matrix} {check p : ℕ} → Spells text m check → Bad-frame text p → ⊥
 spelled-not-bad s (short h) = omega (arith, spells-length s)
 spelled-not-bad s (long h) = omega (arith, spells-length s)
-spelled-not-bad s (bad-digit l b) = digits-hold-none-bad (spells-digits s) b
+spelled-not-bad s (bad-digit l b) = passes-or-fails (spells-digits s) b
 
 -- a text with a wrong check word has the right one for no record
 wrong-not-right : {text : List ℕ} {m n : Matrix} {check : ℕ} → Spells text m check → (check ≡ check-word m → ⊥) → Spells text n (check-word n) → ⊥

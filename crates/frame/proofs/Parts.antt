@@ -1,22 +1,23 @@
 -- A frame's text, part by part: words read and written one after the other, and parts joined. Assumes nothing.
 use mathlib.Core.Path.{_≡_, sym, _∙_, ap, ap₂, subst}
 use mathlib.Core.List.{List, [], _∷_, _++_, append-assoc, append-nil}
-use Prim.Native.Nat.{ℕ, zero, suc, _+_, _-_, _*_, _%_, _^_, _≤_, _<_}
-use native.Mathlib.Nat.{not-suc-le-zero, le-of-suc-le-suc}
+use Prim.Native.Nat.{ℕ, suc, _+_, _-_, _*_, _%_, _^_, _≤_, _<_}
 use native.Mathlib.Numerals.{add-one}
 use native.Mathlib.Omega.{arith}
 use borrow.Rule.Slice.PartMut.{putMid}
 use lib.IntN.{ℤ, pos}
 use lib.ListN.{length, take, drop, getD, set, take-append-drop, length-append, length-take, length-drop}
 use lib.Seq.{take-all, take-suc, take-suc-set, take-append-add, take-at, drop-at, drop-drop, length-take-le}
+use Rattle.whole.specs.List.{none, more}
+use Rattle.whole.proofs.List.{every-take, every-drop, every-join}
 use Rattle.ring.proofs.Bounds.{stored}
 use Rattle.matrix.specs.declared.Matrix.{Matrix}
 use Rattle.answer.specs.Limits.{frame-length, check-word-place}
 use Rattle.accept.specs.Accept.{coefficients}
 use Rattle.frame.specs.Digit.{digits, Digits}
-use Rattle.frame.specs.Frame.{word, words, words-text, total, frame-text, In-word, In-words, Spells}
+use Rattle.frame.specs.Frame.{word, words, words-text, total, frame-text, In-words, Spells}
 use Rattle.frame.specs.Parts.{Spelled, Coefficient, Coefficients, Record-text, Record-of}
-use Rattle.frame.proofs.Digits.{digits-take, digits-drop, digits-length}
+use Rattle.frame.proofs.Digits.{digits-length}
 use Rattle.frame.proofs.Words.{in-word-stored}
 
 -- a front and what follows it make a longer front
@@ -47,22 +48,12 @@ sum-more list i k sum h e =
     let more = ap (λ (l : List ℤ). total (words l)) (take-suc list i (pos 0) h) ∙ total-more (take i list) (getD list i (pos 0)) in
     omega arith
 
-pub in-words-more : {list : List ℤ} {z : ℤ} → In-words list → In-word z → In-words (list ++ (z ∷ []))
-in-words-more In-words.none k = In-words.more k In-words.none
-in-words-more (In-words.more h hs) k = In-words.more h (in-words-more hs k)
-
--- the coefficient at a place
-pub in-word-at : (list : List ℤ) (i : ℕ) → In-words list → i < length list → In-word (getD list i (pos 0))
-in-word-at [] i hs l = absurd (not-suc-le-zero l)
-in-word-at (z ∷ rest) zero (In-words.more h hs) l = h
-in-word-at (z ∷ rest) (suc i) (In-words.more h hs) l = in-word-at rest i hs (le-of-suc-le-suc l)
-
 -- the text of a part
 abbrev pub part : ℕ → ℕ → List ℕ → List ℕ
 part from to text = take (to - from) (drop from text)
 
 pub part-digits : (from to : ℕ) (text : List ℕ) → Digits text → Digits (part from to text)
-part-digits from to text d = digits-take (to - from) (drop from text) (digits-drop from text d)
+part-digits from to text d = every-take (to - from) (every-drop from d)
 
 pub part-length : (from to : ℕ) (text : List ℕ) → from ≤ to → to ≤ length text → length (part from to text) ≡ to - from
 part-length from to text h k = simp (length-take, length-drop) (omega arith)
@@ -98,7 +89,7 @@ pub read-step :
     × In-words (take (i + 1) (set list i (stored z)))
 read-step text list i n z h k e f s w =
     rw (add-one, in-word-stored (w .fits))
-    (read-more text list i n z h k e s w, subst In-words (sym (take-suc-set list i z h)) (in-words-more f (w .fits)))
+    (read-more text list i n z h k e s w, subst In-words (sym (take-suc-set list i z h)) (every-join f (more (w .fits) none)))
 
 -- ---- parts written
 -- a part put in its place, after what stands before it

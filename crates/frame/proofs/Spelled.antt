@@ -7,6 +7,7 @@ use native.Mathlib.Omega.{arith}
 use lib.IntN.{ℤ, pos}
 use lib.ListN.{length, getD, drop, length-append, drop-of-length-le}
 use lib.Seq.{drop-cons}
+use Rattle.whole.proofs.List.{every-join}
 use Rattle.ring.specs.Element.{element}
 use Rattle.matrix.specs.declared.Matrix.{Matrix}
 use Rattle.matrix.specs.Matrix.{matrix}
@@ -14,7 +15,7 @@ use Rattle.answer.specs.Limits.{frame-length}
 use Rattle.accept.specs.Accept.{coefficients}
 use Rattle.frame.specs.Digit.{digits, Digits}
 use Rattle.frame.specs.Frame.{words, words-text, check-word, frame-text, Spells}
-use Rattle.frame.proofs.Digits.{digits-length, digits-are-digits, digits-join, digits-once, join-once}
+use Rattle.frame.proofs.Digits.{digits-length, digits-are-digits, digits-once, join-once}
 use Rattle.frame.proofs.Words.{words-length, words-text-length, words-text-digits, words-once}
 
 -- the record with these coefficients
@@ -65,8 +66,7 @@ module _ (m : Matrix) where
   pub frame-text-digits : (check : ℕ) → Digits (frame-text m check)
   unfolding frame-text
   frame-text-digits check =
-      digits-join (digits 2 (m .exponent)) (words-text (words (coefficients m)) ++ digits 8 check) (digits-are-digits 2 (m .exponent))
-      (digits-join (words-text (words (coefficients m))) (digits 8 check) (words-text-digits (words (coefficients m))) (digits-are-digits 8 check))
+      every-join (digits-are-digits 2 (m .exponent)) (every-join (words-text-digits (words (coefficients m))) (digits-are-digits 8 check))
 
 pub spells-length : {text : List ℕ} {m : Matrix} {check : ℕ} → Spells text m check → length text ≡ frame-length
 spells-length {m = m} {check = check} s = ap length (s .digits) ∙ frame-text-length m check

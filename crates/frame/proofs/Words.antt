@@ -13,6 +13,8 @@ use lib.Signed.{ltZ}
 use mir.Syntax.{w64}
 use mir.Val.{SFits}
 use mir.Facts.{toZ-ofZ}
+use Rattle.whole.specs.List.{none, more}
+use Rattle.whole.proofs.List.{every-join}
 use Rattle.ring.specs.Bounds.{Bounded}
 use Rattle.ring.proofs.Bounds.{stored}
 use Rattle.answer.specs.Limits.{coefficient-limit}
@@ -20,7 +22,7 @@ use Rattle.accept.specs.Accept.{In-limits}
 use Rattle.accept.proofs.Limits.{bounded-in-limit}
 use Rattle.frame.specs.Digit.{digits, Digits}
 use Rattle.frame.specs.Frame.{word, words, words-text, In-word, from-zero, below-zero, In-words}
-use Rattle.frame.proofs.Digits.{digits-length, digits-are-digits, digits-join, digits-once, join-once}
+use Rattle.frame.proofs.Digits.{digits-length, digits-are-digits, digits-once, join-once}
 
 -- ---- one word
 pub word-below : {z : ℤ} → In-word z → word z < 16 ^ 8
@@ -50,8 +52,8 @@ in-word (pos n) h = from-zero {n = n} (omega (arith, h .size))
 in-word (negsuc n) h = below-zero {n = n} (omega (arith, h .size))
 
 pub in-words : {list : List ℤ} → In-limits list → In-words list
-in-words In-limits.none = In-words.none
-in-words (In-limits.more {z = z} e h) = In-words.more (in-word z (bounded-in-limit z e)) (in-words h)
+in-words none = none
+in-words (more {a = z} e h) = more (in-word z (bounded-in-limit z e)) (in-words h)
 
 -- below zero and from zero, as the code tells them apart
 pub record Below-zero (z : ℤ) : Type 0 where
@@ -98,16 +100,16 @@ words-text-length (w ∷ rest) =
 
 pub words-text-digits : (ws : List ℕ) → Digits (words-text ws)
 unfolding words-text
-words-text-digits [] = Digits.none
-words-text-digits (w ∷ rest) = digits-join (digits 8 w) (words-text rest) (digits-are-digits 8 w) (words-text-digits rest)
+words-text-digits [] = none
+words-text-digits (w ∷ rest) = every-join (digits-are-digits 8 w) (words-text-digits rest)
 
 -- the digits of the words tell the coefficients
 pub words-once : {y z : List ℤ} → In-words y → In-words z → length y ≡ length z → words-text (words y) ≡ words-text (words z) → y ≡ z
 unfolding words words-text
-words-once In-words.none In-words.none l e = refl
-words-once In-words.none (In-words.more k ks) l e = absurd (omega arith)
-words-once (In-words.more h hs) In-words.none l e = absurd (omega arith)
-words-once (In-words.more {z = a} {rest = more-a} h hs) (In-words.more {z = b} {rest = more-b} k ks) l e =
+words-once none none l e = refl
+words-once none (more k ks) l e = absurd (omega arith)
+words-once (more h hs) none l e = absurd (omega arith)
+words-once (more {a = a} {s = more-a} h hs) (more {a = b} {s = more-b} k ks) l e =
     let parts =
     join-once (digits 8 (word a)) (digits 8 (word b)) (words-text (words more-a)) (words-text (words more-b))
     (digits-length 8 (word a) ∙ sym (digits-length 8 (word b))) e in

@@ -1,9 +1,9 @@
 -- Document 01, "Frames": lower-case hexadecimal digits, and numbers written in them.
 use Prim.Native.Nat.{ℕ, zero, suc, _+_, _/_, _%_}
-use mathlib.Core.Bool.{Bool, true, false, cond, _&&_}
+use mathlib.Core.Bool.{Bool, true, cond, _&&_}
 use mathlib.Core.List.{List, [], _∷_, _++_}
-use mathlib.Core.Path.{_≡_}
 use lib.Dec.{ltb, leb}
+use Rattle.whole.specs.List.{All-pass, First-failing}
 
 -- the digit for a number below sixteen: 0-9, then a-f
 unfoldable pub digit : ℕ → ℕ
@@ -18,11 +18,9 @@ unfoldable pub digits : ℕ → ℕ → List ℕ
 digits zero n = []
 digits (suc count) n = digits count (n / 16) ++ (digit (n % 16) ∷ [])
 
-pub data Digits : List ℕ → Type 0 where
-  none : Digits []
-  more : {b : ℕ} {s : List ℕ} → is-digit b ≡ true → Digits s → Digits (b ∷ s)
+abbrev pub Digits : List ℕ → Type 0
+Digits text = All-pass is-digit text
 
--- the first byte that is no digit
-pub data First-bad-digit : List ℕ → ℕ → Type 0 where
-  here : {b : ℕ} {s : List ℕ} → is-digit b ≡ false → First-bad-digit (b ∷ s) 0
-  later : {b : ℕ} {s : List ℕ} {p : ℕ} → is-digit b ≡ true → First-bad-digit s p → First-bad-digit (b ∷ s) (suc p)
+-- "first bad digit": the place of the first byte that is no digit
+abbrev pub First-bad-digit : List ℕ → ℕ → Type 0
+First-bad-digit text place = First-failing is-digit text place

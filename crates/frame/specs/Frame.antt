@@ -3,6 +3,7 @@ use Prim.Native.Nat.{ℕ, _+_, _-_, _^_, _%_, _<_}
 use mathlib.Core.List.{List, [], _∷_, _++_}
 use mathlib.Core.Path.{_≡_}
 use lib.IntN.{ℤ, pos, negsuc}
+use Rattle.whole.specs.List.{Every}
 use Rattle.matrix.specs.declared.Matrix.{Matrix}
 use Rattle.accept.specs.Accept.{coefficients}
 use Rattle.frame.specs.Digit.{digits}
@@ -40,9 +41,8 @@ pub data In-word : ℤ → Type 0 where
   from-zero : {n : ℕ} → n < 2 ^ 31 → In-word (pos n)
   below-zero : {n : ℕ} → n < 2 ^ 31 → In-word (negsuc n)
 
-pub data In-words : List ℤ → Type 0 where
-  none : In-words []
-  more : {z : ℤ} {rest : List ℤ} → In-word z → In-words rest → In-words (z ∷ rest)
+abbrev pub In-words : List ℤ → Type 0
+In-words list = Every In-word list
 
 -- a text of 138 digits spells a record and a check word, which may be the right one or not
 pub record Spells (text : List ℕ) (m : Matrix) (check : ℕ) : Type 0 where

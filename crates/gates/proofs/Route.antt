@@ -4,10 +4,10 @@ use mathlib.Core.List.{List}
 use Prim.Native.Nat.{ℕ, _≤_}
 use native.Mathlib.Omega.{arith}
 use lib.ListN.{length}
+use Rattle.whole.proofs.List.{passes-or-fails}
 use Rattle.matrix.specs.declared.Matrix.{Matrix}
 use Rattle.matrix.proofs.Same.{same-trans}
 use Rattle.letter.specs.String.{Refused-string, too-long, bad-letter}
-use Rattle.letter.proofs.Letters.{letters-hold-none-bad}
 use Rattle.answer.specs.declared.Refusal.{Refusal}
 use Rattle.answer.specs.declared.Figures.{Figures}
 use Rattle.answer.specs.Limits.{string-limit}
@@ -19,7 +19,7 @@ use Rattle.gates.specs.Gates.{Matrix-to-form, squeezed}
 
 not-refused : {m : Matrix} {text : List ℕ} {r : Refusal} → Spelt m text → length text ≤ string-limit → Refused-string text r → ⊥
 not-refused s within (too-long h) = omega arith
-not-refused s within (bad-letter h bad) = letters-hold-none-bad (s .letters) bad
+not-refused s within (bad-letter h bad) = passes-or-fails (s .letters) bad
 
 pub by-string : {m : Matrix} {text before after : List ℕ} {answer : Said Figures} → Accepted-record m → Spelt m text → length text ≤ string-limit →
     String-to-form text before answer after → Matrix-to-form m before answer after

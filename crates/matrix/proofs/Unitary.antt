@@ -6,6 +6,7 @@ use mathlib.Core.List.{List, [], _∷_}
 use Prim.Native.Nat.{ℕ, zero, suc, _+_, _^_}
 use native.Mathlib.Omega.{arith}
 use lib.IntN.{ℤ, pos, _+ℤ_, negℤ}
+use Rattle.whole.specs.List.{none, more}
 use Rattle.whole.proofs.Ring.{times-none}
 use Rattle.whole.proofs.Solver.{Expr, var, con, _⊕_, _⊗_, ⊖_, solve, combine, given, done}
 use Rattle.ring.specs.declared.Element.{Element}
@@ -15,7 +16,7 @@ use Rattle.ring.proofs.Ring.{elements, whole-element, whole-sum, product-comm, 
 use Rattle.ring.proofs.Root2.{two-power, root2-power-plus, root2-power-cancel}
 use Rattle.matrix.specs.declared.Matrix.{Matrix}
 use Rattle.matrix.specs.Matrix.{matrix, identity, times, adjoint, Equal-over, Same, Unitary}
-use Rattle.matrix.specs.Letter.{gate, gate-H, gate-S, gate-T, gate-W, gate-X, gate-Y, gate-Z, is-letter, matrix-of, Letters, none, more}
+use Rattle.matrix.specs.Letter.{gate, gate-H, gate-S, gate-T, gate-W, gate-X, gate-Y, gate-Z, is-letter, matrix-of, Letters}
 use Rattle.matrix.proofs.Letter.{by-letter}
 
 -- a column times the conjugate of another

@@ -1,10 +1,10 @@
 -- Document 01, "What goes in and what comes out" and "Numbers and matrices": the seven letters, their matrices, and
 -- the matrix of a string. A text is the list of its bytes.
-use Prim.Native.Nat.{ℕ, zero, suc}
-use mathlib.Core.Bool.{Bool, true, false, cond}
+use Prim.Native.Nat.{ℕ}
+use mathlib.Core.Bool.{Bool, true, cond}
 use mathlib.Core.List.{List, [], _∷_}
-use mathlib.Core.Path.{_≡_}
 use lib.Dec.{eqb}
+use Rattle.whole.specs.List.{All-pass, First-failing}
 use Rattle.ring.specs.Element.{nothing, one, omega, omega2, negation}
 use Rattle.matrix.specs.declared.Matrix.{Matrix}
 use Rattle.matrix.specs.Matrix.{matrix, identity, times}
@@ -82,11 +82,9 @@ matrix-of [] = identity
 matrix-of (b ∷ s) = times (gate b) (matrix-of s)
 
 -- every byte is one of the letters
-pub data Letters : List ℕ → Type 0 where
-  none : Letters []
-  more : {b : ℕ} {s : List ℕ} → is-letter b ≡ true → Letters s → Letters (b ∷ s)
+abbrev pub Letters : List ℕ → Type 0
+Letters text = All-pass is-letter text
 
 -- "a byte outside the seven letters": the first such place
-pub data First-bad : List ℕ → ℕ → Type 0 where
-  here : {b : ℕ} {s : List ℕ} → is-letter b ≡ false → First-bad (b ∷ s) 0
-  later : {b : ℕ} {s : List ℕ} {p : ℕ} → is-letter b ≡ true → First-bad s p → First-bad (b ∷ s) (suc p)
+abbrev pub First-bad : List ℕ → ℕ → Type 0
+First-bad text place = First-failing is-letter text place

@@ -6,10 +6,10 @@ use mathlib.Core.List.{List}
 use mathlib.Core.Logic.{_↔_}
 use mathlib.Core.Path.{_≡_, refl, ap}
 use lib.ListN as L
+use Rattle.whole.proofs.List.{passes-or-fails, fails-once}
 use Rattle.form.specs.Form.{Form, Parts}
 use Rattle.form.proofs.Grammar.{form-parts-unique}
-use Rattle.form.proofs.Count.{form-is-letters}
-use Rattle.letter.proofs.Letters.{letters-hold-none-bad, first-bad-once}
+use Rattle.form.proofs.Spelled.{form-is-letters}
 use Rattle.answer.specs.Limits.{form-limit}
 use Rattle.answer.specs.Refusal.{Said, accepted, refused}
 use Rattle.reader.specs.declared.Reading.{Reading}
@@ -35,15 +35,15 @@ reader-answers-once (too-long h) (bad-letter k q) = absurd (omega arith)
 reader-answers-once (too-long h) (not-form k l n q) = absurd (omega arith)
 reader-answers-once (too-long h) (form k g) = absurd (omega arith)
 reader-answers-once (bad-letter h p) (too-long k) = absurd (omega arith)
-reader-answers-once (bad-letter h p) (bad-letter k q) = ap (refused 1) (first-bad-once p q)
-reader-answers-once (bad-letter h p) (not-form k l n q) = absurd (letters-hold-none-bad l p)
-reader-answers-once (bad-letter h p) (form k g) = absurd (letters-hold-none-bad (form-is-letters g) p)
+reader-answers-once (bad-letter h p) (bad-letter k q) = ap (refused 1) (fails-once p q)
+reader-answers-once (bad-letter h p) (not-form k l n q) = absurd (passes-or-fails l p)
+reader-answers-once (bad-letter h p) (form k g) = absurd (passes-or-fails (form-is-letters g) p)
 reader-answers-once (not-form h l n p) (too-long k) = absurd (omega arith)
-reader-answers-once (not-form h l n p) (bad-letter k q) = absurd (letters-hold-none-bad l q)
+reader-answers-once (not-form h l n p) (bad-letter k q) = absurd (passes-or-fails l q)
 reader-answers-once (not-form h l n p) (not-form k l′ n′ q) = ap (refused 7) (longest-prefix-once p q)
 reader-answers-once (not-form h l n p) (form k g) = absurd (n g)
 reader-answers-once (form h f) (too-long k) = absurd (omega arith)
-reader-answers-once (form h f) (bad-letter k q) = absurd (letters-hold-none-bad (form-is-letters f) q)
+reader-answers-once (form h f) (bad-letter k q) = absurd (passes-or-fails (form-is-letters f) q)
 reader-answers-once (form h f) (not-form k l n q) = absurd (n f)
 reader-answers-once (form h f) (form k g) = ap accepted (form-reads-once f g)
 

@@ -12,7 +12,7 @@ use Rattle.matrix.specs.Letter.{matrix-of}
 use Rattle.form.specs.Form.{Form}
 use Rattle.form.specs.Count.{t-count}
 use Rattle.form.specs.Tail.{tail-text}
-use Rattle.form.proofs.Count.{form-is-letters}
+use Rattle.form.proofs.Spelled.{form-is-letters}
 use Rattle.rotation.specs.Rotation.{Axis, Entries, Least-exponent, Even, Row-zero, Leftmost, Told}
 use Rattle.rotation.proofs.Vector.{unit, text-turn}
 use Rattle.rotation.proofs.Oddness.{odd-element, mixed, pattern}

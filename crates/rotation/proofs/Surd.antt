@@ -5,6 +5,7 @@ use mathlib.Core.Bool.{true}
 use mathlib.Core.List.{List, [], _∷_}
 use Prim.Native.Nat.{ℕ}
 use lib.IntN.{ℤ, pos, _+ℤ_, negℤ}
+use Rattle.whole.specs.List.{none, more}
 use Rattle.whole.proofs.Whole.{whole}
 use Rattle.whole.proofs.Parity.{odd}
 use Rattle.whole.proofs.Solver.{var, con, _⊕_, ⊖_, solve}
@@ -13,7 +14,7 @@ use Rattle.ring.specs.declared.Element.{Element}
 use Rattle.ring.specs.Element.{element, nothing, one, root2, sum, multiple, product, negation, conjugate}
 use Rattle.ring.proofs.Formal.{formal, _+ᶠ_, multipleᶠ, wholeᶠ, root2ᶠ, coefficientwise}
 use Rattle.ring.proofs.Ring.{conjugate-sum, conjugate-product, conjugate-negation}
-use Rattle.matrix.specs.Letter.{Letters, none, more, is-letter}
+use Rattle.matrix.specs.Letter.{Letters, is-letter}
 use Rattle.matrix.proofs.Letter.{by-letter}
 use Rattle.rotation.specs.Rotation.{Axis, axis-X, axis-Y, axis-Z, surd}
 use Rattle.rotation.proofs.Vector.{Vector, vector, unit, letter-turn, text-turn}
@@ -99,4 +100,4 @@ real-unit axis-Z = real-vector real-nothing real-nothing real-one
 pub real-text : {w : List ℕ} → Letters w → (q : Axis) → Real-vector (text-turn w (unit q))
 unfolding text-turn
 real-text none q = real-unit q
-real-text (more {b} {s} letter letters) q = real-letter b letter (text-turn s (unit q)) (real-text letters q)
+real-text (more {a = b} {s} letter letters) q = real-letter b letter (text-turn s (unit q)) (real-text letters q)

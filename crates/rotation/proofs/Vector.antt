@@ -8,12 +8,13 @@ use Prim.Native.Nat.{ℕ, suc, _+_}
 use native.Mathlib.Omega.{arith}
 use lib.IntN.{ℤ}
 use lib.Dec.{eqb}
+use Rattle.whole.specs.List.{none, more}
 use Rattle.ring.specs.declared.Element.{Element}
 use Rattle.ring.specs.Element.{nothing, one, omega as ω, omega2, root2, sum, product, multiple, turned, negation, conjugate}
 use Rattle.ring.proofs.Formal.{Formal, _+ᶠ_, -ᶠ_, _*ᶠ_, root2ᶠ, xᶠ, yᶠ, zᶠ, coefficients}
 use Rattle.matrix.specs.declared.Matrix.{Matrix}
 use Rattle.matrix.specs.Matrix.{matrix, identity, times, adjoint, Same}
-use Rattle.matrix.specs.Letter.{H, S, T, W, X, Y, Z, gate, gate-H, gate-S, gate-T, gate-W, gate-X, gate-Y, gate-Z, matrix-of, is-letter, Letters, none, more}
+use Rattle.matrix.specs.Letter.{H, S, T, W, X, Y, Z, gate, gate-H, gate-S, gate-T, gate-W, gate-X, gate-Y, gate-Z, matrix-of, is-letter, Letters}
 use Rattle.matrix.proofs.Times.{times-assoc, identity-times, times-identity}
 use Rattle.matrix.proofs.Same.{same-of-equal, same-trans, same-times-left, same-times-right}
 use Rattle.matrix.proofs.Letter.{by-letter}
@@ -141,7 +142,7 @@ pub text-turns : {w : List ℕ} → Letters w → (v : Vector) →
     Same (times (matrix-of w) (times (along 0 v) (adjoint (matrix-of w)))) (along (t-count w) (text-turn w v))
 unfolding matrix-of t-count text-turn
 text-turns none v = same-of-equal (around-identity (along 0 v))
-text-turns (more {b} {s} letter letters) v =
+text-turns (more {a = b} {s} letter letters) v =
     same-trans (same-of-equal (around-product (gate b) (matrix-of s) (along 0 v)))
     (same-trans (same-times-left (gate b) (same-times-right (adjoint (gate b)) (text-turns letters v)))
     (letter-turns b letter (t-count s) (text-turn s v)))

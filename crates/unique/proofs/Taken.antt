@@ -15,7 +15,8 @@ use Rattle.matrix.proofs.Unitary.{unitary-matrix-of}
 use Rattle.form.specs.Tail.{tails}
 use Rattle.form.specs.Form.{Syllable, Parts, Form, form-text, front-text, syllable-text, syllables-text}
 use Rattle.form.specs.Count.{t-count}
-use Rattle.form.proofs.Count.{t-count-append, form-is-letters}
+use Rattle.form.proofs.Count.{t-count-append}
+use Rattle.form.proofs.Spelled.{form-is-letters}
 use Rattle.extend.proofs.Exists.{form-exists}
 use Rattle.complete.proofs.Complete.{complete}
 use Rattle.rotation.specs.Rotation.{Axis, Least-exponent, Leftmost, third-for-T, first-for-HT, second-for-SHT}

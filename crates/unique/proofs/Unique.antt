@@ -16,7 +16,8 @@ use Rattle.matrix.proofs.Unitary.{unitary-matrix-of}
 use Rattle.form.specs.Tail.{tails, tail-text}
 use Rattle.form.specs.Form.{Syllable, HT, SHT, Parts, Form, front-text, syllable-text, syllables-text, form-text}
 use Rattle.form.specs.Count.{t-count}
-use Rattle.form.proofs.Count.{t-count-form, letters-front, letters-syllable}
+use Rattle.form.proofs.Count.{t-count-form}
+use Rattle.form.proofs.Spelled.{spelled-front, spelled-syllable, five-letters}
 use Rattle.form.proofs.Grammar.{Same-rest}
 use Rattle.rotation.specs.Rotation.{Axis, axis-X, axis-Y, axis-Z, Leftmost, third-for-T, first-for-HT, second-for-SHT, Least-exponent}
 use Rattle.matrix.proofs.Adjoint.{unitary-cancel}
@@ -102,7 +103,7 @@ cancel-syllable : (s : Syllable) (ss ss′ : List Syllable) (m n : ℕ) →
     Same-text (rest-text ss m) (rest-text ss′ n)
 unfolding syllables-text
 cancel-syllable s ss ss′ m n same =
-    cancel-text (syllable-text s) (rest-text ss m) (rest-text ss′ n) (letters-syllable s)
+    cancel-text (syllable-text s) (rest-text ss m) (rest-text ss′ n) (spelled-syllable five-letters s)
     (subst₂ Same-text
     (append-assoc (syllable-text s) (syllables-text ss) (tail-text m))
     (append-assoc (syllable-text s) (syllables-text ss′) (tail-text n)) same)
@@ -149,7 +150,7 @@ fronts-unique : (b b′ : Bool) (ss ss′ : List Syllable) (m n : ℕ) → m < t
     (b ≡ b′) × Same-rest ss ss′ m n
 unfolding front-text
 fronts-unique true true ss ss′ m n below below′ same =
-    (refl, rests-unique ss ss′ m n below below′ (cancel-text (T ∷ []) (rest-text ss m) (rest-text ss′ n) (letters-front true) same))
+    (refl, rests-unique ss ss′ m n below below′ (cancel-text (T ∷ []) (rest-text ss m) (rest-text ss′ n) (spelled-front five-letters true) same))
 fronts-unique true false ss ss′ m n below below′ same = absurd (front-told ss ss′ m n below below′ same)
 fronts-unique false true ss ss′ m n below below′ same = absurd (front-told ss′ ss n m below′ below (same-sym same))
 fronts-unique false false ss ss′ m n below below′ same = (refl, rests-unique ss ss′ m n below below′ same)

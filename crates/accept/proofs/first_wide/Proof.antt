@@ -1,28 +1,30 @@
--- `accept::first_wide` meets its contract. The loop's invariant: none before `i` is wide. The measure is what is left of
--- the list. Assumes nothing.
-use Prim.Native.Nat.{_+_, _≤_, _-_}
+-- `accept::first_wide` meets its contract. The loop's invariant: those before `i` are in their limits. The measure is what is
+-- left of the list. Assumes nothing.
+use Prim.Native.Nat.{_≤_, _-_}
 use native.Mathlib.Numerals.{add-one}
 use native.Mathlib.Omega.{arith}
-use mathlib.Core.Path.{_≡_, sym, _∙_, ap}
+use mathlib.Core.Path.{_≡_, sym, _∙_, ap, subst}
 use borrow.Author.Needs.{needs, sfits-of}
 use borrow.Author.Tests.{not-true, not-false}
 use lib.IntN.{pos}
-use lib.ListN.{length, getD, drop}
+use lib.ListN.{length, getD, take}
+use lib.Seq.{take-all}
 use mir.Facts.{toZ-ofZ}
-use Rattle.accept.specs.Accept.{in-limit}
-use Rattle.accept.specs.Wide.{first-wide}
-use Rattle.accept.proofs.Limits.{first-wide-at, first-wide-past, first-wide-end}
+use Rattle.whole.specs.List.{none}
+use Rattle.whole.proofs.List.{every-grows, fails-after}
+use Rattle.accept.specs.Accept.{in-limit, In-limits}
+use Rattle.accept.specs.Wide.{Search, wide, all-inside}
 use Rattle.accept.proofs.first_wide.Statement.{statement}
 use Rattle.accept.proofs.first_wide.Tie as tie
 
 abbrev Inv-loop : tie.InvT-loop
-Inv-loop list i₀ i = (i ≤ length list) × (first-wide list ≡ i + first-wide (drop i list))
+Inv-loop list i₀ i = (i ≤ length list) × In-limits (take i list)
 
 abbrev μ-loop : tie.MeasureT-loop
 μ-loop list i₀ i = length list - i
 
 loop-holds : tie.Need-loop-holds Inv-loop μ-loop
-loop-holds c = (search needs, omega arith)
+loop-holds c = (search needs, none)
 
 mul-in-limit : tie.Need-mul-in-limit Inv-loop μ-loop
 mul-in-limit c = search needs
@@ -41,8 +43,7 @@ tested c = c .in-limit .ensures ∙ ap in-limit (toZ-ofZ (search sfits-of))
 returns : tie.Need-returns Inv-loop μ-loop
 returns c =
     let t = c .before .before .before in
-    let e = sym (tested (c .before)) ∙ not-true _ (c .if1 .taken) in
-    omega (arith, first-wide-at (t .before .before .args .list .now) (t .before .loop .i) (t .loop-test .taken) e)
+    wide (fails-after (pos 0) _ _ (t .loop-test .taken) (t .before .loop .inv .1) (sym (tested (c .before)) ∙ not-true _ (c .if1 .taken)))
 
 add-i : tie.Need-add-i Inv-loop μ-loop
 add-i c = search needs
@@ -53,14 +54,15 @@ loop-less c = search needs
 loop-again : tie.Need-loop-again Inv-loop μ-loop
 loop-again c =
     let t = c .before .before .before in
-    let e = sym (tested (c .before)) ∙ not-false _ (c .if1 .left) in (
-      search needs,
-      rw add-one
-          (omega (arith, first-wide-past (t .before .before .args .list .now) (t .before .loop .i) (t .loop-test .taken) e)),
-    )
+    let inside = sym (tested (c .before)) ∙ not-false _ (c .if1 .left) in
+    (search needs, rw add-one (every-grows (pos 0) _ _ (t .loop-test .taken) (t .before .loop .inv .1) inside))
 
 returns-2 : tie.Need-returns-2 Inv-loop μ-loop
-returns-2 c = omega (arith, first-wide-end (c .before .before .args .list .now) (c .before .loop .i) (c .loop-test .left))
+returns-2 c =
+    let list = c .before .before .args .list .now in
+    let i = c .before .loop .i in
+    subst (Search list) (omega arith)
+    (all-inside (rw (take-all i list (c .loop-test .left)) at (c .before .loop .inv .1)))
 
 pub first-wide-spec : {M : Type 1} → statement M
 first-wide-spec =

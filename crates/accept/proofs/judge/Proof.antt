@@ -1,14 +1,12 @@
 -- `accept::judge` meets its contract. Assumes nothing.
-use mathlib.Core.Path.{_≡_, refl, sym, _∙_, ap, subst}
+use mathlib.Core.Path.{_≡_, refl, sym, _∙_}
 use mathlib.Core.Bool.{true≢false}
-use Prim.Native.Nat.{ℕ}
 use native.Mathlib.Omega.{arith}
 use borrow.Author.Needs.{needs}
 use lib.ListN.{length}
 use Rattle.matrix.specs.declared.Matrix.{Matrix}
-use Rattle.answer.specs.declared.Refusal.the-variants.{WideCoefficient}
-use Rattle.accept.specs.Accept.{coefficients, Inside, Refused-record, high-exponent, wide-coefficient, not-unitary, Judged}
-use Rattle.accept.specs.Wide.{first-wide}
+use Rattle.accept.specs.Accept.{coefficients, Inside, high-exponent, wide-coefficient, not-unitary, Judged}
+use Rattle.accept.specs.Wide.{Search}
 use Rattle.accept.proofs.Limits.{wide-found, none-wide}
 use Rattle.accept.proofs.judge.Statement.{statement}
 use Rattle.accept.proofs.judge.Tie as tie
@@ -17,16 +15,16 @@ sixteen : (m : Matrix) → length (coefficients m) ≡ 16
 unfolding coefficients
 sixteen m = refl
 
--- the place found among the record's coefficients
-index-is : (c : tie.After-first-wide) → c .first-wide .result ≡ first-wide (coefficients (c .before .before .before .before .before .args .m))
-index-is c = c .first-wide .ensures ∙ ap first-wide (c .before .before .coefficients .ensures)
+-- the search among the record's coefficients
+searched : (c : tie.After-first-wide) → Search (coefficients (c .before .before .before .before .before .args .m)) (c .first-wide .result)
+searched c = rw (c .before .before .coefficients .ensures) at (c .first-wide .ensures)
 
 inside : (c : tie.Else2) → Inside (c .before .before .before .before .before .before .args .m)
 inside c =
     let m = c .before .before .before .before .before .before .args .m in
     record {
       exponent = c .before .before .before .before .if1 .left;
-      coefficients = none-wide (coefficients m) (omega (arith, sixteen m, index-is (c .before)));
+      coefficients = none-wide (searched (c .before)) (omega (arith, sixteen m));
     }
 
 returns : tie.Need-returns
@@ -45,10 +43,8 @@ first-wide-requires c κs = search needs
 returns-2 : tie.Need-returns-2
 unfolding Judged
 returns-2 c =
-    let i = index-is (c .before) in
     let m = c .before .before .before .before .before .before .args .m in
-    subst (λ (n : ℕ). Refused-record m (WideCoefficient n)) (sym i)
-    (wide-coefficient (c .before .before .before .before .if1 .left) (wide-found (coefficients m) (omega (arith, sixteen m, i))))
+    wide-coefficient (c .before .before .before .before .if1 .left) (wide-found (searched (c .before)) (omega (arith, sixteen m)))
 
 is-unitary-requires : tie.Need-is-unitary-requires
 is-unitary-requires c κs = inside c

@@ -9,8 +9,9 @@ use borrow.Author.Needs.{needs}
 use borrow.Author.Tests.{not-true, not-false}
 use lib.ListN.{length, take}
 use lib.Seq.{take-all}
+use Rattle.whole.specs.List.{none}
+use Rattle.whole.proofs.List.{every-grows, fails-after}
 use Rattle.matrix.specs.Letter.{Letters}
-use Rattle.letter.proofs.Letters.{letters-more, bad-after-letters}
 use Rattle.extend.specs.State.{Extended}
 use Rattle.extend.proofs.Step.{extends-none}
 use Rattle.extend.proofs.Stack.{room-left, taken-more}
@@ -27,7 +28,7 @@ abbrev μ-loop : tie.MeasureT-loop
 loop-holds : tie.Need-loop-holds Inv-loop μ-loop
 loop-holds c =
     let start = c .before .before in
-    (search needs, Letters.none, refl, record { spells = start .pre .1 .0; extends = extends-none _ })
+    (search needs, none, refl, record { spells = start .pre .1 .0; extends = extends-none _ })
 
 shared-slice-read-letter : tie.Need-shared-slice-read-letter Inv-loop μ-loop
 shared-slice-read-letter c = search needs
@@ -40,7 +41,7 @@ same-length c = c .before .before .before .before .loop .inv .2
 
 returns : tie.Need-returns Inv-loop μ-loop
 returns c =
-    bad-after-letters _ _ (search needs) (c .before .before .before .before .loop .inv .1)
+    fails-after 0 _ _ (search needs) (c .before .before .before .before .loop .inv .1)
     (sym (c .before .is-letter .ensures) ∙ not-true _ (c .if1 .taken))
 
 by-letter-requires : tie.Need-by-letter-requires Inv-loop μ-loop
@@ -70,7 +71,7 @@ loop-again c =
     let more = c .before .before .before .before .before .before .before .loop-test .taken in
     let letter = sym (c .before .before .before .before .before .is-letter .ensures) ∙ not-false _ (c .before .before .before .before .if1 .left) in (
       search needs,
-      rw add-one (letters-more _ _ more (at-loop .loop .inv .1) letter),
+      rw add-one (every-grows 0 _ _ more (at-loop .loop .inv .1) letter),
       c .before .before .by-letter .kept .1 .0 ∙ at-loop .loop .inv .2,
       taken-more _ _ more (at-loop .loop .inv .3) (c .before .before .by-letter .ensures),
     )

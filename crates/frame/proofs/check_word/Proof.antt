@@ -9,9 +9,10 @@ use borrow.Author.Needs.{needs}
 use lib.IntN.{ℤ, pos}
 use lib.ListN.{length, take, getD}
 use lib.Seq.{take-all}
+use Rattle.whole.proofs.List.{every-member}
 use Rattle.frame.specs.Frame.{word, words, total, check-word, In-word, In-words}
 use Rattle.frame.proofs.Words.{in-word-stored}
-use Rattle.frame.proofs.Parts.{in-word-at, sum-more}
+use Rattle.frame.proofs.Parts.{sum-more}
 use Rattle.frame.proofs.Spelled.{sixteen}
 use Rattle.frame.proofs.check_word.Statement.{statement}
 use Rattle.frame.proofs.check_word.Tie as tie
@@ -36,7 +37,7 @@ fits : (c : tie.In-loop Inv-loop μ-loop) → In-word (getD (c .before .before .
 fits c =
     let s = c .before .before in
     let list = s .coefficients .ensures in
-    in-word-at (s .coefficients .result) (c .before .loop .i) (subst In-words (sym list) (s .before .pre))
+    every-member (pos 0) (subst In-words (sym list) (s .before .pre)) (c .before .loop .i)
     (omega (arith, ap length list, sixteen (s .before .args .m)))
 
 mul-word : tie.Need-mul-word Inv-loop μ-loop

@@ -8,6 +8,7 @@ use borrow.Author.Needs.{needs}
 use lib.IntN.{ℤ}
 use lib.ListN.{length, take, length-set}
 use lib.Seq.{take-all}
+use Rattle.whole.specs.List.{none}
 use Rattle.frame.specs.Frame.{words, words-text, In-words}
 use Rattle.frame.proofs.Parts.{part-digits, part-length, read-step}
 use Rattle.frame.proofs.coefficients.Statement.{statement}
@@ -22,7 +23,7 @@ abbrev μ-loop : tie.MeasureT-loop
 
 loop-holds : tie.Need-loop-holds Inv-loop μ-loop
 unfolding words words-text
-loop-holds c = (search needs, refl, refl, In-words.none)
+loop-holds c = (search needs, refl, refl, none)
 
 mul-start : tie.Need-mul-start Inv-loop μ-loop
 mul-start c = omega arith

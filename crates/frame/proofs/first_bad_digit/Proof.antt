@@ -7,8 +7,9 @@ use borrow.Author.Tests.{not-true, not-false}
 use mathlib.Core.Path.{sym, _∙_}
 use lib.ListN.{length, take}
 use lib.Seq.{take-all}
+use Rattle.whole.specs.List.{none}
+use Rattle.whole.proofs.List.{every-grows, fails-after}
 use Rattle.frame.specs.Digit.{Digits}
-use Rattle.frame.proofs.Digits.{digits-grow, bad-after-digits}
 use Rattle.frame.proofs.first_bad_digit.Statement.{statement}
 use Rattle.frame.proofs.first_bad_digit.Tie as tie
 
@@ -19,7 +20,7 @@ abbrev μ-loop : tie.MeasureT-loop
 μ-loop text i₀ i = length text - i
 
 loop-holds : tie.Need-loop-holds Inv-loop μ-loop
-loop-holds c = (search needs, Digits.none)
+loop-holds c = (search needs, none)
 
 shared-slice-read-is-digit : tie.Need-shared-slice-read-is-digit Inv-loop μ-loop
 shared-slice-read-is-digit c = search needs
@@ -28,7 +29,7 @@ is-digit-requires : tie.Need-is-digit-requires Inv-loop μ-loop
 is-digit-requires c κs = search needs
 
 returns : tie.Need-returns Inv-loop μ-loop
-returns c = bad-after-digits _ _ (search needs) (search needs) (sym (c .before .is-digit .ensures) ∙ not-true _ (c .if1 .taken))
+returns c = fails-after 0 _ _ (search needs) (search needs) (sym (c .before .is-digit .ensures) ∙ not-true _ (c .if1 .taken))
 
 add-i : tie.Need-add-i Inv-loop μ-loop
 add-i c = search needs
@@ -41,7 +42,7 @@ loop-again c =
     let t = c .before .before .before in (
       search needs,
       rw add-one
-          (digits-grow _ _ (t .loop-test .taken) (t .before .loop .inv .1) (sym (c .before .is-digit .ensures) ∙ not-false _ (c .if1 .left))),
+          (every-grows 0 _ _ (t .loop-test .taken) (t .before .loop .inv .1) (sym (c .before .is-digit .ensures) ∙ not-false _ (c .if1 .left))),
     )
 
 returns-2 : tie.Need-returns-2 Inv-loop μ-loop

@@ -10,8 +10,9 @@ use borrow.Author.Needs.{needs}
 use lib.Dec.{lit<}
 use lib.ListN.{length, take, getD}
 use lib.Seq.{take-all, take-suc}
+use Rattle.whole.proofs.List.{every-member}
 use Rattle.frame.specs.Digit.{digit, digits}
-use Rattle.frame.proofs.Digits.{digit-at, digits-more}
+use Rattle.frame.proofs.Digits.{digits-more}
 use Rattle.frame.proofs.number.Statement.{statement}
 use Rattle.frame.proofs.number.Tie as tie
 
@@ -42,7 +43,7 @@ shared-slice-read-digit-value c = search needs
 digit-value-requires : tie.Need-digit-value-requires Inv-loop μ-loop
 digit-value-requires c κs =
     let l = c .before .before in
-    digit-at (l .before .before .args .text .now) (l .loop .i) (l .before .before .pre .0) (c .before .loop-test .taken)
+    every-member 0 (l .before .before .pre .0) (l .loop .i) (c .before .loop-test .taken)
 
 add-n : tie.Need-add-n Inv-loop μ-loop
 add-n c =

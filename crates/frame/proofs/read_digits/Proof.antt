@@ -4,11 +4,11 @@ use native.Mathlib.Omega.{arith}
 use borrow.Author.Needs.{needs}
 use lib.ListN.{length}
 use lib.Seq.{length-take-le}
+use Rattle.whole.proofs.List.{every-take}
 use Rattle.answer.specs.Limits.{check-word-place}
 use Rattle.accept.specs.Accept.{Judged}
 use Rattle.frame.specs.Frame.{check-word, Spells}
 use Rattle.frame.specs.Calls.{refused-frame, accepted-frame, bad-check-word, bad-record}
-use Rattle.frame.proofs.Digits.{digits-take}
 use Rattle.frame.proofs.Parts.{part-digits, part-length, frame-parts}
 use Rattle.frame.proofs.read_digits.Statement.{statement}
 use Rattle.frame.proofs.read_digits.Tie as tie
@@ -19,7 +19,7 @@ slice-aggregate-read-record c = sym (length-take-le check-word-place (c .before 
 read-record-requires : tie.Need-read-record-requires
 read-record-requires c κs =
     let s = c .before .before in (
-      digits-take check-word-place (s .args .text .now) (s .pre .0),
+      every-take check-word-place (s .pre .0),
       length-take-le check-word-place (s .args .text .now) (omega arith),
     )
 

@@ -4,7 +4,7 @@ use native.Mathlib.Omega.{arith}
 use borrow.Author.Needs.{needs}
 use lib.ListN.{length}
 use lib.Seq.{length-take-le}
-use Rattle.frame.proofs.Digits.{digits-take}
+use Rattle.whole.proofs.List.{every-take}
 use Rattle.frame.proofs.Parts.{part-digits, part-length, record-parts}
 use Rattle.frame.proofs.read_record.Statement.{statement}
 use Rattle.frame.proofs.read_record.Tie as tie
@@ -15,7 +15,7 @@ slice-aggregate-number c = sym (length-take-le 2 (c .before .before .args .text 
 number-requires : tie.Need-number-requires
 number-requires c κs =
     let s = c .before .before in
-    (digits-take 2 (s .args .text .now) (s .pre .0), omega (arith, length-take-le 2 (s .args .text .now) (omega arith)))
+    (every-take 2 (s .pre .0), omega (arith, length-take-le 2 (s .args .text .now) (omega arith)))
 
 sub-coefficients : tie.Need-sub-coefficients
 sub-coefficients c = search needs

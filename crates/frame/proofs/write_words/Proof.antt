@@ -9,10 +9,11 @@ use borrow.Rule.Slice.PartMut.{same-len-mid}
 use lib.IntN.{ℤ, pos}
 use lib.ListN.{length, take, getD}
 use lib.Seq.{take-all}
+use Rattle.whole.proofs.List.{every-member}
 use Rattle.frame.specs.Digit.{digits}
 use Rattle.frame.specs.Frame.{word, words, words-text, In-word}
 use Rattle.frame.proofs.Words.{in-word-stored}
-use Rattle.frame.proofs.Parts.{part-length, in-word-at, write-step}
+use Rattle.frame.proofs.Parts.{part-length, write-step}
 use Rattle.frame.proofs.write_words.Statement.{statement}
 use Rattle.frame.proofs.write_words.Tie as tie
 
@@ -46,7 +47,7 @@ fits : (c : tie.In-loop Inv-loop μ-loop) → In-word (getD (c .before .before .
 fits c =
     let s = c .before .before .before in
     let sixteen : length (s .args .t2) ≡ 16 = search needs in
-    in-word-at (s .args .t2) (c .before .loop .i) (s .pre .1) (omega arith)
+    every-member (pos 0) (s .pre .1) (c .before .loop .i) (omega arith)
 
 mul-word : tie.Need-mul-word Inv-loop μ-loop
 mul-word c = omega arith

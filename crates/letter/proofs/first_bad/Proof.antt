@@ -7,8 +7,9 @@ use borrow.Author.Tests.{not-true, not-false}
 use mathlib.Core.Path.{sym, _∙_}
 use lib.ListN.{length, take}
 use lib.Seq.{take-all}
+use Rattle.whole.specs.List.{none}
+use Rattle.whole.proofs.List.{every-grows, fails-after}
 use Rattle.matrix.specs.Letter.{Letters}
-use Rattle.letter.proofs.Letters.{letters-more, bad-after-letters}
 use Rattle.letter.proofs.first_bad.Statement.{statement}
 use Rattle.letter.proofs.first_bad.Tie as tie
 
@@ -19,7 +20,7 @@ abbrev μ-loop : tie.MeasureT-loop
 μ-loop text i₀ i = length text - i
 
 loop-holds : tie.Need-loop-holds Inv-loop μ-loop
-loop-holds c = (search needs, Letters.none)
+loop-holds c = (search needs, none)
 
 shared-slice-read-is-letter : tie.Need-shared-slice-read-is-letter Inv-loop μ-loop
 shared-slice-read-is-letter c = search needs
@@ -28,7 +29,7 @@ is-letter-requires : tie.Need-is-letter-requires Inv-loop μ-loop
 is-letter-requires c κs = search needs
 
 returns : tie.Need-returns Inv-loop μ-loop
-returns c = bad-after-letters _ _ (search needs) (search needs) (sym (c .before .is-letter .ensures) ∙ not-true _ (c .if1 .taken))
+returns c = fails-after 0 _ _ (search needs) (search needs) (sym (c .before .is-letter .ensures) ∙ not-true _ (c .if1 .taken))
 
 add-i : tie.Need-add-i Inv-loop μ-loop
 add-i c = search needs
@@ -40,7 +41,7 @@ loop-again : tie.Need-loop-again Inv-loop μ-loop
 loop-again c =
     let inside = c .before .before .before .loop-test .taken in
     let letters = c .before .before .before .before .loop .inv .1 in
-    (search needs, rw add-one (letters-more _ _ inside letters (sym (c .before .is-letter .ensures) ∙ not-false _ (c .if1 .left))))
+    (search needs, rw add-one (every-grows 0 _ _ inside letters (sym (c .before .is-letter .ensures) ∙ not-false _ (c .if1 .left))))
 
 returns-2 : tie.Need-returns-2 Inv-loop μ-loop
 returns-2 c = rw (take-all _ _ (c .loop-test .left)) at (c .before .loop .inv .1)
