@@ -2,3 +2,4 @@
 pub mod Within
 pub mod Legible
 pub mod Tells
+pub mod Once

@@ -13,12 +13,12 @@ use Rattle.reader.specs.Reader.{Form-reader}
 use Rattle.compare.specs.Compare.{Comparison}
 use Rattle.expand.specs.Expand.{String-to-matrix}
 use Rattle.frame.specs.Calls.{Frame-to-matrix, Matrix-to-frame}
-use Rattle.face.specs.Word.{Answers, Answers-verdict, figures-word, reading-word, record-word, frame-word, Legible-figures, Legible-reading, Legible-record}
+use Rattle.face.specs.Word.{Answers, packed, figures-word, reading-word, record-word, frame-word, verdict-word, Legible, Legible-figures, Legible-reading, Legible-record, Legible-verdict}
 use Rattle.face.specs.Record.{record-of, left-in}
 
 -- calls that write a form into a lent buffer
 abbrev pub Answers-form : (Said Figures → Type 0) → ℕ → Type 0
-Answers-form = Answers figures-word Legible-figures
+Answers-form = Answers (packed figures-word) (Legible Legible-figures)
 
 abbrev pub String-to-form-word : (text before : List ℕ) → ℕ → (after : List ℕ) → Type 0
 String-to-form-word text before word after = Answers-form (λ answer. String-to-form text before answer after) word
@@ -31,15 +31,15 @@ abbrev pub Frame-to-form-word : (text before : List ℕ) → ℕ → (after : Li
 Frame-to-form-word text before word after = Answers-form (λ answer. Frame-to-form text before answer after) word
 
 abbrev pub Form-reader-word : List ℕ → ℕ → Type 0
-Form-reader-word text word = Answers reading-word Legible-reading (Form-reader text) word
+Form-reader-word text word = Answers (packed reading-word) (Legible Legible-reading) (Form-reader text) word
 
 abbrev pub Comparison-word : (first second : List ℕ) → ℕ → Type 0
-Comparison-word first second word = Answers-verdict (Comparison first second) word
+Comparison-word first second word = Answers verdict-word Legible-verdict (Comparison first second) word
 
 -- calls that write a record's coefficients into a lent array
 abbrev pub Answers-record : (Said Matrix → Type 0) → (before : List ℤ) → ℕ → (after : List ℤ) → Type 0
 Answers-record Promise before word after =
-    Answers record-word Legible-record (λ answer. Promise answer × (after ≡ left-in answer before)) word
+    Answers (packed record-word) (Legible Legible-record) (λ answer. Promise answer × (after ≡ left-in answer before)) word
 
 abbrev pub String-to-matrix-word : List ℕ → (before : List ℤ) → ℕ → (after : List ℤ) → Type 0
 String-to-matrix-word text before word after = Answers-record (String-to-matrix text) before word after
@@ -50,4 +50,4 @@ Frame-to-matrix-word text before word after = Answers-record (Frame-to-matrix te
 -- the call that writes a frame into a lent buffer
 abbrev pub Matrix-to-frame-word : (exponent : ℕ) (lent : List ℤ) (before : List ℕ) → ℕ → (after : List ℕ) → Type 0
 Matrix-to-frame-word exponent lent before word after =
-    Answers frame-word (λ nothing. Unit {0}) (λ answer. Matrix-to-frame (record-of exponent lent) before answer after) word
+    Answers (packed frame-word) (Legible (λ nothing. Unit {0})) (λ answer. Matrix-to-frame (record-of exponent lent) before answer after) word

@@ -77,14 +77,8 @@ Legible-verdict different = Unit {0}
 Legible-verdict (refused-of which number place) = Legible-refusal number place
 
 -- A word answers for a promise: it is something that the promise lets be said, packed, each value in its bits.
-pub record Answers {A : Type 0} (word-of : A → ℕ) (Values : A → Type 0) (Promise : Said A → Type 0) (word : ℕ) : Type 0 where
-  pub answer : Said A
+pub record Answers {A : Type 0} (word-of : A → ℕ) (Legible-as : A → Type 0) (Promise : A → Type 0) (word : ℕ) : Type 0 where
+  pub answer : A
   pub promised : Promise answer
-  pub legible : Legible Values answer
-  pub says : word ≡ packed word-of answer
-
-pub record Answers-verdict (Promise : Verdict → Type 0) (word : ℕ) : Type 0 where
-  pub answer : Verdict
-  pub promised : Promise answer
-  pub legible : Legible-verdict answer
-  pub says : word ≡ verdict-word answer
+  pub legible : Legible-as answer
+  pub says : word ≡ word-of answer
