@@ -24,11 +24,23 @@ ghost use Rattle.face.specs.Word.{refusal-word, figures-word, reading-wo
 ghost use Rattle.face.specs.Record.{element-at, record-of};
 ghost use Rattle.face.specs.Calls.{String-to-form-word, Matrix-to-form-word, Frame-to-form-word, Form-reader-word, Comparison-word, String-to-matrix-word, Frame-to-matrix-word, Matrix-to-frame-word};
 
+// The bits of an answer word at which its values begin.
+const BIT_8: u64 = 256;
+
+const BIT_24: u64 = 16777216;
+
+const BIT_40: u64 = 1099511627776;
+
+const BIT_56: u64 = 72057594037927936;
+
+// What a comparison says of different strings.
+const DIFFERENT: u64 = 8 * BIT_8;
+
 fn refusal_word(refusal: Refusal) -> u64
     requires { ⌜ Legible-refusal (number refusal) (place refusal) ⌝ }
     ensures { λ r. ⌜ r ≡ refusal-word (number refusal) (place refusal) ⌝ }
 {
-    (refusal.number() as u64) + 256 * (refusal.place() as u64)
+    (refusal.number() as u64) + BIT_8 * (refusal.place() as u64)
 }
 
 fn figures_word(figures: Figures) -> u64
@@ -38,7 +50,7 @@ fn figures_word(figures: Figures) -> u64
     let length = figures.length as u64;
     let tcount = figures.tcount as u64;
     let hcount = figures.hcount as u64;
-    256 * length + 16777216 * tcount + 1099511627776 * hcount
+    BIT_8 * length + BIT_24 * tcount + BIT_40 * hcount
 }
 
 // The word of a call that writes a form.
@@ -61,7 +73,7 @@ fn reading_word(reading: Reading) -> u64
         tcount: reading.tcount,
         hcount: reading.hcount,
     };
-    figures_word(figures) + 72057594037927936 * (reading.tail as u64)
+    figures_word(figures) + BIT_56 * (reading.tail as u64)
 }
 
 fn read_word(read: Read) -> u64
@@ -99,10 +111,10 @@ fn compared_word(compared: Compared) -> u64
 {
     match compared {
         Compared::Same => 0,
-        Compared::Phase(j) => 256 * (j as u64),
-        Compared::Different => 2048,
+        Compared::Phase(j) => BIT_8 * (j as u64),
+        Compared::Different => DIFFERENT,
         Compared::Refused { which, refusal } => {
-            refusal_word(refusal) + 1099511627776 * which_number(which)
+            refusal_word(refusal) + BIT_40 * which_number(which)
         }
     }
 }
@@ -145,7 +157,7 @@ fn put_record(m: Matrix, lent: &mut [i64; 16]) -> u64
     ensures { λ _. ⌜ now (lent .exit) ≡ coefficients m ⌝ }
 {
     *lent = accept::coefficients(m);
-    256 * (m.exponent as u64)
+    BIT_8 * (m.exponent as u64)
 }
 
 #[no_mangle]
