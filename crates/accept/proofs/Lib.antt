@@ -1,3 +1,4 @@
+pub mod Record
 pub mod Limits
 pub mod Sizes
 pub mod Judged

@@ -1,3 +1,4 @@
 pub mod Accept
+pub mod Record
 pub mod Wide
 pub mod Column

@@ -3,6 +3,7 @@ use answer::COEFFICIENT_LIMIT;
 use answer::EXPONENT_LIMIT;
 use answer::Refusal;
 use matrix::Matrix;
+use matrix::Row;
 use ring::Element;
 ghost use Prim.Native.Nat.{_≤_, _^_};
 ghost use mathlib.Core.Bool.{true};
@@ -14,6 +15,7 @@ ghost use Rattle.ring.specs.Bounds.{Small};
 ghost use Rattle.matrix.specs.Matrix.{Unitary};
 ghost use Rattle.answer.specs.Limits.{exponent-limit, coefficient-limit};
 ghost use Rattle.accept.specs.Accept.{coefficients, in-limit, Inside, Judged};
+ghost use Rattle.accept.specs.Record.{element-at, record-of};
 ghost use Rattle.accept.specs.Wide.{Search};
 ghost use Rattle.accept.specs.Column.{Unit-column, column-product};
 
@@ -49,6 +51,38 @@ pub fn coefficients(m: Matrix) -> [i64; 16]
         d.a2,
         d.a3,
     ]
+}
+
+// The element whose coefficients stand from a place on.
+fn element_at(list: &[i64; 16], place: usize) -> Element
+    requires { ⌜ place ≤ 12 ⌝ }
+    ensures { λ r. ⌜ r ≡ element-at (now (list .entry)) place ⌝ }
+{
+    Element {
+        a0: list[place],
+        a1: list[place + 1],
+        a2: list[place + 2],
+        a3: list[place + 3],
+    }
+}
+
+// The record of an exponent and sixteen coefficients.
+pub fn record_of(exponent: u32, list: &[i64; 16]) -> Matrix
+    ensures { λ r. ⌜ r ≡ record-of exponent (now (list .entry)) ⌝ }
+{
+    let top = Row {
+        left: element_at(list, 0),
+        right: element_at(list, 4),
+    };
+    let bottom = Row {
+        left: element_at(list, 8),
+        right: element_at(list, 12),
+    };
+    Matrix {
+        exponent,
+        top,
+        bottom,
+    }
 }
 
 fn in_limit(n: i64) -> bool

@@ -12,9 +12,8 @@ use Rattle.expand.proofs.Once.{expanded-said-once}
 use Rattle.frame.proofs.Once.{frame-read-once, frame-written-once}
 use Rattle.demands.specs.Input.{of-string, of-record, of-frame}
 use Rattle.demands.proofs.First.{answers-once}
-use Rattle.face.specs.Record.{left-in}
 use Rattle.face.specs.Word.{Answers}
-use Rattle.face.specs.Calls.{Answers-record, String-to-form-word, Matrix-to-form-word, Frame-to-form-word, Form-reader-word, Comparison-word, String-to-matrix-word, Frame-to-matrix-word, Matrix-to-frame-word}
+use Rattle.face.specs.Calls.{left-in, Answers-record, String-to-form-word, Matrix-to-form-word, Frame-to-form-word, Form-reader-word, Comparison-word, String-to-matrix-word, Frame-to-matrix-word, Matrix-to-frame-word}
 
 -- where two promises fix the answer, their words are equal; and so is what they fix beside it
 words-once :

@@ -8,13 +8,13 @@ use lib.IntN.{ℤ}
 use Rattle.matrix.specs.declared.Matrix.{Matrix}
 use Rattle.answer.specs.declared.Figures.{Figures}
 use Rattle.answer.specs.Refusal.{Said, accepted, refused}
-use Rattle.accept.specs.Accept.{coefficients}
+use Rattle.accept.proofs.Record.{coefficients-once}
 use Rattle.reader.specs.declared.Reading.{Reading}
 use Rattle.compare.specs.declared.Which.{Which}
 use Rattle.compare.specs.declared.Which.the-variants.{First, Second}
 use Rattle.compare.specs.Compare.{Verdict, same, phase, different, refused as refused-of}
 use Rattle.face.specs.Word.{packed, figures-word, reading-word, record-word, verdict-word, which-number, Legible, Legible-refusal, Legible-figures, Legible-reading, Legible-record, Legible-verdict}
-use Rattle.face.specs.Record.{record-of, left-in}
+use Rattle.face.specs.Calls.{left-in}
 
 -- the lowest 16 bits of a number, and what stands above them
 low-told : (l k t u : ℕ) → l < 2 ^ 16 → k < 2 ^ 16 → l + 2 ^ 16 * t ≡ k + 2 ^ 16 * u → (l ≡ k) × (t ≡ u)
@@ -100,18 +100,10 @@ verdict-told (refused-of v n o) (refused-of w m r) p q e = verdict-refusal-made 
 
 -- an answer with a matrix
 
--- an exponent and a lent array that a call left are its record again
-pub record-read-back : (m : Matrix) → record-of (m .exponent) (coefficients m) ≡ m
-unfolding record-of coefficients
-record-read-back m = refl
-
-record-made : (m n : Matrix) → m .exponent ≡ n .exponent → coefficients m ≡ coefficients n → m ≡ n
-record-made m n e f = cc (record-read-back m, record-read-back n)
-
 pub record-told :
     (a b : Said Matrix) (before : List ℤ) → Legible Legible-record a → Legible Legible-record b →
     packed record-word a ≡ packed record-word b → left-in a before ≡ left-in b before → a ≡ b
-record-told (accepted m) (accepted n) before p q e f = ap accepted (record-made m n (omega arith) f)
+record-told (accepted m) (accepted n) before p q e f = ap accepted (coefficients-once m n (omega arith) f)
 record-told (accepted m) (refused n o) before p q e f = absurd (omega arith)
 record-told (refused n o) (accepted m) before p q e f = absurd (omega arith)
 record-told (refused n o) (refused m r) before p q e f = refusal-made (omega arith) (omega arith)

@@ -4,8 +4,10 @@ use mathlib.Core.List.{List}
 use mathlib.Core.Path.{_≡_}
 use lib.IntN.{ℤ}
 use Rattle.answer.specs.declared.Figures.{Figures}
-use Rattle.answer.specs.Refusal.{Said}
+use Rattle.answer.specs.Refusal.{Said, accepted, refused}
 use Rattle.matrix.specs.declared.Matrix.{Matrix}
+use Rattle.accept.specs.Accept.{coefficients}
+use Rattle.accept.specs.Record.{record-of}
 use Rattle.squeeze.specs.String.{String-to-form}
 use Rattle.gates.specs.Gates.{Matrix-to-form}
 use Rattle.unframe.specs.Unframe.{Frame-to-form}
@@ -14,7 +16,6 @@ use Rattle.compare.specs.Compare.{Comparison}
 use Rattle.expand.specs.Expand.{String-to-matrix}
 use Rattle.frame.specs.Calls.{Frame-to-matrix, Matrix-to-frame}
 use Rattle.face.specs.Word.{Answers, packed, figures-word, reading-word, record-word, frame-word, verdict-word, Legible, Legible-figures, Legible-reading, Legible-record, Legible-verdict}
-use Rattle.face.specs.Record.{record-of, left-in}
 
 -- calls that write a form into a lent buffer
 abbrev pub Answers-form : (Said Figures → Type 0) → ℕ → Type 0
@@ -36,7 +37,11 @@ Form-reader-word text word = Answers (packed reading-word) (Legible Legible-read
 abbrev pub Comparison-word : (first second : List ℕ) → ℕ → Type 0
 Comparison-word first second word = Answers verdict-word Legible-verdict (Comparison first second) word
 
--- calls that write a record's coefficients into a lent array
+-- calls that write a record's coefficients into a lent array; after a refusal it has what was there
+abbrev pub left-in : Said Matrix → List ℤ → List ℤ
+left-in (accepted m) before = coefficients m
+left-in (refused number place) before = before
+
 abbrev pub Answers-record : (Said Matrix → Type 0) → (before : List ℤ) → ℕ → (after : List ℤ) → Type 0
 Answers-record Promise before word after =
     Answers (packed record-word) (Legible Legible-record) (λ answer. Promise answer × (after ≡ left-in answer before)) word

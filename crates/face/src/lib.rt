@@ -8,10 +8,8 @@ use expand::Expanded;
 use frame::Framed;
 use frame::Stored;
 use matrix::Matrix;
-use matrix::Row;
 use reader::Read;
 use reader::Reading;
-use ring::Element;
 ghost use mathlib.Core.Path.{_≡_};
 ghost use Prim.Native.Nat.{_+_, _*_, _^_, _≤_};
 ghost use Rattle.answer.specs.Refusal.{number, place};
@@ -21,7 +19,6 @@ ghost use Rattle.reader.specs.Reader.{said as said-read};
 ghost use Rattle.compare.specs.Compare.{verdict};
 ghost use Rattle.frame.specs.Calls.{said-stored};
 ghost use Rattle.face.specs.Word.{refusal-word, figures-word, reading-word, record-word, frame-word, verdict-word, which-number, packed, Legible, Legible-refusal, Legible-figures, Legible-reading, Legible-record, Legible-verdict};
-ghost use Rattle.face.specs.Record.{element-at, record-of};
 ghost use Rattle.face.specs.Calls.{String-to-form-word, Matrix-to-form-word, Frame-to-form-word, Form-reader-word, Comparison-word, String-to-matrix-word, Frame-to-matrix-word, Matrix-to-frame-word};
 
 // The bits of an answer word at which its values begin.
@@ -119,37 +116,6 @@ fn compared_word(compared: Compared) -> u64
     }
 }
 
-fn element_at(lent: &[i64; 16], place: usize) -> Element
-    requires { ⌜ place ≤ 12 ⌝ }
-    ensures { λ r. ⌜ r ≡ element-at (now (lent .entry)) place ⌝ }
-{
-    Element {
-        a0: lent[place],
-        a1: lent[place + 1],
-        a2: lent[place + 2],
-        a3: lent[place + 3],
-    }
-}
-
-// The record of an exponent and a lent array.
-fn record_of(exponent: u32, lent: &[i64; 16]) -> Matrix
-    ensures { λ r. ⌜ r ≡ record-of exponent (now (lent .entry)) ⌝ }
-{
-    let top = Row {
-        left: element_at(lent, 0),
-        right: element_at(lent, 4),
-    };
-    let bottom = Row {
-        left: element_at(lent, 8),
-        right: element_at(lent, 12),
-    };
-    Matrix {
-        exponent,
-        top,
-        bottom,
-    }
-}
-
 // A record's coefficients left in a lent array, and its word.
 fn put_record(m: Matrix, lent: &mut [i64; 16]) -> u64
     requires { ⌜ Legible-record m ⌝ }
@@ -175,7 +141,7 @@ pub extern "C" fn chorvadhim_matrix_to_form(
 ) -> u64
     ensures { λ r. ⌜ Matrix-to-form-word exponent (now (coefficients .entry)) (now (buffer .entry)) r (now (buffer .exit)) ⌝ }
 {
-    let m = record_of(exponent, coefficients);
+    let m = accept::record_of(exponent, coefficients);
     written_word(gates::matrix_to_form(m, buffer))
 }
 
@@ -230,6 +196,6 @@ pub extern "C" fn chorvadhim_write_frame(
 ) -> u64
     ensures { λ r. ⌜ Matrix-to-frame-word exponent (now (coefficients .entry)) (now (buffer .entry)) r (now (buffer .exit)) ⌝ }
 {
-    let m = record_of(exponent, coefficients);
+    let m = accept::record_of(exponent, coefficients);
     stored_word(frame::write_frame(m, buffer))
 }

@@ -14,9 +14,11 @@ use Rattle.ring.proofs.Bounds.{stored}
 use Rattle.matrix.specs.declared.Matrix.{Matrix}
 use Rattle.answer.specs.Limits.{frame-length, check-word-place}
 use Rattle.accept.specs.Accept.{coefficients}
+use Rattle.accept.specs.Record.{record-of}
+use Rattle.accept.proofs.Record.{coefficients-read-back}
 use Rattle.frame.specs.Digit.{digits, Digits}
 use Rattle.frame.specs.Frame.{word, words, words-text, total, frame-text, In-words, Spells}
-use Rattle.frame.specs.Parts.{Spelled, Coefficient, Coefficients, Record-text, Record-of}
+use Rattle.frame.specs.Parts.{Spelled, Coefficient, Coefficients, Record-text}
 use Rattle.frame.proofs.Digits.{digits-length}
 use Rattle.frame.proofs.Words.{in-word-stored}
 
@@ -137,16 +139,18 @@ in-two n text h =
 
 -- a front of two digits and the 128 after it are a record
 pub record-parts :
-    {text : List ℕ} {n : ℕ} {list : List ℤ} {m : Matrix} → length text ≡ check-word-place → Spelled (take 2 text) n →
-    Coefficients (part 2 (length text) text) list → Record-of n list m → Record-text text m
-record-parts {text} {n} {list} {m} l s c r = record {
-  digits =
-      in-two 2 text (omega arith)
-      ∙ ap₂ _++_ (s .digits ∙ ap₂ digits two (sym (r .exponent)))
-      (c .words ∙ ap (λ (z : List ℤ). words-text (words z)) (sym (r .coefficients)));
-  exponent = omega (arith, r .exponent, subst (λ (k : ℕ). n < 16 ^ k) two (s .below));
-  coefficients = subst In-words (sym (r .coefficients)) (c .fit);
-}
+    {text : List ℕ} {n : ℕ} {list : List ℤ} → length text ≡ check-word-place → length list ≡ 16 → Spelled (take 2 text) n →
+    Coefficients (part 2 (length text) text) list → Record-text text (record-of n list)
+unfolding record-of
+record-parts {text} {n} {list} l sixteen s c =
+    let read-back = coefficients-read-back n list sixteen in
+    record {
+      digits =
+          in-two 2 text (omega arith)
+          ∙ ap₂ _++_ (s .digits ∙ ap (λ (k : ℕ). digits k n) two) (c .words ∙ ap (λ (z : List ℤ). words-text (words z)) (sym read-back));
+      exponent = subst (λ (k : ℕ). n < 16 ^ k) two (s .below);
+      coefficients = subst In-words (sym read-back) (c .fit);
+    }
   where
     two : length (take 2 text) ≡ 2
     two = length-take-le 2 text (omega arith)

@@ -1,57 +1,19 @@
--- A text spells at most one record and one check word, has 138 bytes, and they are digits; the sixteen coefficients and the
--- exponent tell a record. Assumes nothing.
-use mathlib.Core.Path.{_≡_, refl, sym, _∙_, ap, ap₂, subst}
-use mathlib.Core.List.{List, [], _∷_, _++_}
-use Prim.Native.Nat.{ℕ, zero, suc, _+_, _≤_}
+-- A text spells at most one record and one check word, has 138 bytes, and they are digits. Assumes
+-- nothing.
+use mathlib.Core.Path.{_≡_, sym, _∙_, ap, subst}
+use mathlib.Core.List.{List, _++_}
+use Prim.Native.Nat.{ℕ}
 use native.Mathlib.Omega.{arith}
-use lib.IntN.{ℤ, pos}
-use lib.ListN.{length, getD, drop, length-append, drop-of-length-le}
-use lib.Seq.{drop-cons}
+use lib.ListN.{length, length-append}
 use Rattle.whole.proofs.List.{every-join}
-use Rattle.ring.specs.Element.{element}
 use Rattle.matrix.specs.declared.Matrix.{Matrix}
-use Rattle.matrix.specs.Matrix.{matrix}
 use Rattle.answer.specs.Limits.{frame-length}
 use Rattle.accept.specs.Accept.{coefficients}
+use Rattle.accept.proofs.Record.{sixteen, coefficients-once}
 use Rattle.frame.specs.Digit.{digits, Digits}
 use Rattle.frame.specs.Frame.{words, words-text, check-word, frame-text, Spells}
 use Rattle.frame.proofs.Digits.{digits-length, digits-are-digits, digits-once, join-once}
 use Rattle.frame.proofs.Words.{words-length, words-text-length, words-text-digits, words-once}
-
--- the record with these coefficients
-abbrev pub record-of : ℕ → List ℤ → Matrix
-record-of k l =
-    matrix k
-    (element (getD l 0 (pos 0)) (getD l 1 (pos 0)) (getD l 2 (pos 0)) (getD l 3 (pos 0)))
-    (element (getD l 4 (pos 0)) (getD l 5 (pos 0)) (getD l 6 (pos 0)) (getD l 7 (pos 0)))
-    (element (getD l 8 (pos 0)) (getD l 9 (pos 0)) (getD l 10 (pos 0)) (getD l 11 (pos 0)))
-    (element (getD l 12 (pos 0)) (getD l 13 (pos 0)) (getD l 14 (pos 0)) (getD l 15 (pos 0)))
-
-pub record-of-coefficients : (m : Matrix) → record-of (m .exponent) (coefficients m) ≡ m
-unfolding coefficients
-record-of-coefficients m = refl
-
--- a list, place by place
-abbrev from : ℕ → ℕ → List ℤ → List ℤ
-from zero i l = []
-from (suc n) i l = getD l i (pos 0) ∷ from n (suc i) l
-
-from-place : (n i : ℕ) (l : List ℤ) → length l ≡ i + n → from n i l ≡ drop i l
-from-place zero i l e = let end : length l ≤ i = omega arith in sym (drop-of-length-le l end)
-from-place (suc n) i l e =
-    ap (λ (s : List ℤ). getD l i (pos 0) ∷ s) (from-place n (suc i) l (omega arith)) ∙ sym (drop-cons l i (pos 0) (omega arith))
-
-pub coefficients-of-record : (k : ℕ) (l : List ℤ) → length l ≡ 16 → coefficients (record-of k l) ≡ l
-unfolding coefficients
-coefficients-of-record k l e = from-place 16 0 l e
-
-pub sixteen : (m : Matrix) → length (coefficients m) ≡ 16
-unfolding coefficients
-sixteen m = refl
-
--- exponent and coefficients tell the record
-pub coefficients-once : (m n : Matrix) → m .exponent ≡ n .exponent → coefficients m ≡ coefficients n → m ≡ n
-coefficients-once m n k e = sym (record-of-coefficients m) ∙ ap₂ record-of k e ∙ record-of-coefficients n
 
 -- ---- the text of a frame
 module _ (m : Matrix) where

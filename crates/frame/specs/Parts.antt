@@ -38,12 +38,3 @@ pub record Record-text (text : List ℕ) (m : Matrix) : Type 0 where
   pub digits : text ≡ digits 2 (m .exponent) ++ words-text (words (coefficients m))
   pub exponent : m .exponent < 256
   pub coefficients : In-words (coefficients m)
-
--- the element of four coefficients, from a place of a list on
-unfoldable pub entry : List ℤ → ℕ → Element
-entry list i = element (getD list i (pos 0)) (getD list (i + 1) (pos 0)) (getD list (i + 2) (pos 0)) (getD list (i + 3) (pos 0))
-
--- the record of an exponent and a list of coefficients
-pub record Record-of (k : ℕ) (list : List ℤ) (m : Matrix) : Type 0 where
-  pub exponent : m .exponent ≡ k
-  pub coefficients : coefficients m ≡ list

@@ -4,8 +4,6 @@ use answer::CHECK_WORD_PLACE;
 use answer::FRAME_LENGTH;
 use answer::Refusal;
 use matrix::Matrix;
-use matrix::Row;
-use ring::Element;
 ghost use Prim.Native.Nat.{_<_, _≤_};
 ghost use mathlib.Core.Bool.{true};
 ghost use mathlib.Core.Path.{_≡_};
@@ -16,7 +14,7 @@ ghost use Rattle.accept.specs.Accept.{coefficients};
 ghost use Rattle.frame.specs.Digit.{digit, is-digit, digits, Digits};
 ghost use Rattle.frame.specs.Frame.{word, words, words-text, check-word, frame-text, In-word, In-words};
 ghost use Rattle.frame.specs.Calls.{said-framed, said-stored, Frame-to-matrix, Matrix-to-frame};
-ghost use Rattle.frame.specs.Parts.{Finds, Spelled, Coefficient, Coefficients, entry, Record-text, Record-of};
+ghost use Rattle.frame.specs.Parts.{Finds, Spelled, Coefficient, Coefficients, Record-text};
 
 // What the frame reader answers.
 pub enum Framed {
@@ -149,38 +147,6 @@ fn coefficients(text: &[u8]) -> [i64; 16]
     list
 }
 
-// The element of four coefficients, from a place of the list on.
-fn entry(list: &[i64; 16], at: usize) -> Element
-    requires { ⌜ at ≤ 12 ⌝ }
-    ensures { λ r. ⌜ r ≡ entry (now (list .entry)) at ⌝ }
-{
-    Element {
-        a0: list[at],
-        a1: list[at + 1],
-        a2: list[at + 2],
-        a3: list[at + 3],
-    }
-}
-
-// The record with these coefficients.
-fn record_of(exponent: u32, list: [i64; 16]) -> Matrix
-    ensures { λ r. ⌜ Record-of exponent list r ⌝ }
-{
-    let top = Row {
-        left: entry(&list, 0),
-        right: entry(&list, 4),
-    };
-    let bottom = Row {
-        left: entry(&list, 8),
-        right: entry(&list, 12),
-    };
-    Matrix {
-        exponent,
-        top,
-        bottom,
-    }
-}
-
 // The check word: a sum that wraps.
 fn check_word(m: Matrix) -> u32
     requires { ⌜ In-words (coefficients m) ⌝ }
@@ -219,7 +185,7 @@ fn read_record(text: &[u8]) -> Matrix
 {
     let exponent = number(&text[..2]);
     let list = coefficients(&text[2..]);
-    record_of(exponent, list)
+    accept::record_of(exponent, &list)
 }
 
 // A frame of 138 digits: its check word, and then its record.

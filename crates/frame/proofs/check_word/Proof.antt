@@ -13,7 +13,7 @@ use Rattle.whole.proofs.List.{every-member}
 use Rattle.frame.specs.Frame.{word, words, total, check-word, In-word, In-words}
 use Rattle.frame.proofs.Words.{in-word-stored}
 use Rattle.frame.proofs.Parts.{sum-more}
-use Rattle.frame.proofs.Spelled.{sixteen}
+use Rattle.accept.proofs.Record.{sixteen}
 use Rattle.frame.proofs.check_word.Statement.{statement}
 use Rattle.frame.proofs.check_word.Tie as tie
 

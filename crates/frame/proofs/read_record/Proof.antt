@@ -1,10 +1,11 @@
 -- `frame::read_record` meets its contract: two digits of an exponent, and 128 of coefficients. Assumes nothing.
-use mathlib.Core.Path.{sym}
+use mathlib.Core.Path.{_≡_, sym, subst}
 use native.Mathlib.Omega.{arith}
 use borrow.Author.Needs.{needs}
 use lib.ListN.{length}
 use lib.Seq.{length-take-le}
 use Rattle.whole.proofs.List.{every-take}
+use Rattle.frame.specs.Parts.{Record-text}
 use Rattle.frame.proofs.Parts.{part-digits, part-length, record-parts}
 use Rattle.frame.proofs.read_record.Statement.{statement}
 use Rattle.frame.proofs.read_record.Tie as tie
@@ -39,8 +40,12 @@ record-of-requires c κs = search needs
 
 returns : tie.Need-returns
 returns c =
-    record-parts (c .before .before .before .before .before .before .pre .1) (c .before .before .before .number .ensures)
-    (c .before .coefficients .ensures) (c .record-of .ensures)
+    let at-list = c .before .before in
+    let at-number = at-list .before .before in
+    let start = at-number .before .before .before in
+    let sixteen : length (at-list .coefficients .result) ≡ 16 = search needs in
+    subst (Record-text (start .args .text .now)) (sym (c .record-of .ensures))
+    (record-parts (start .pre .1) sixteen (at-number .number .ensures) (at-list .coefficients .ensures))
 
 pub read-record-spec : {M : Type 1} → statement M
 read-record-spec =

@@ -1,8 +1,8 @@
--- `face::record_of` meets its contract: each entry is the element that stands in its place. Assumes nothing.
+-- `accept::record_of` meets its contract: each entry is the element that stands in its place. Assumes nothing.
 use borrow.Author.Needs.{needs}
-use Rattle.face.specs.Record.{record-of}
-use Rattle.face.proofs.record_of.Statement.{statement}
-use Rattle.face.proofs.record_of.Tie as tie
+use Rattle.accept.specs.Record.{record-of}
+use Rattle.accept.proofs.record_of.Statement.{statement}
+use Rattle.accept.proofs.record_of.Tie as tie
 
 element-at-requires : tie.Need-element-at-requires
 element-at-requires c κs = search needs
