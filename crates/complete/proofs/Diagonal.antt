@@ -13,7 +13,7 @@ use Rattle.whole.proofs.Solver.{var, con, _⊕_, _⊗_, ⊖_, solve, combine, g
 use Rattle.whole.proofs.Cancellation.{four-squares-zero}
 use Rattle.ring.specs.declared.Element.{Element}
 use Rattle.ring.specs.Element.{element, nothing, one, omega as ω, omega2, root2, sum, product, multiple, turned, negation, conjugate, size-whole, root2-power}
-use Rattle.ring.proofs.Ring.{elements, product-assoc, product-comm, product-one, conjugate-conjugate}
+use Rattle.ring.proofs.Ring.{elements, product-assoc, product-comm, product-one, conjugate-conjugate, conjugate-nothing}
 use Rattle.ring.proofs.Root2.{root2-squared, root2-cancel, root2-power-cancel}
 use Rattle.matrix.specs.declared.Matrix.{Matrix}
 use Rattle.matrix.specs.Matrix.{matrix, identity, times, Same, Equal-over}
@@ -54,10 +54,6 @@ bottom-left-nothing {r} g up =
     (g .led .bottom
     ∙ ap (λ (z : Element). product (root2-power (g .scale)) (sum one (negation z))) (ap real up ∙ up-is-one)
     ∙ solve elements (root2-power (g .scale) ∷ []) (var 0 ⊗ (con (pos 1) ⊕ ⊖ con (pos 1))) (con (pos 0)) tt))
-
-conjugate-nothing : conjugate nothing ≡ nothing
-unfolding conjugate nothing
-conjugate-nothing = refl
 
 module _ (m : Matrix) (i : Isometry m) (corner : m .bottom .left ≡ nothing) where
   -- the first entry has the whole size of its column

@@ -11,7 +11,7 @@ use Rattle.whole.proofs.Solver.{Expr, var, con, _⊕_, _⊗_, ⊖_, solve, comb
 use Rattle.ring.specs.declared.Element.{Element}
 use Rattle.ring.specs.Element.{nothing, one, omega as ω, omega2, root2, sum, product, multiple, turned, negation, conjugate, root2-power}
 use Rattle.ring.proofs.Formal.{formal, -ᶠ_, _*ᶠ_, conjugateᶠ, xᶠ, coefficients, coefficientwise}
-use Rattle.ring.proofs.Ring.{elements, conjugate-sum, conjugate-negation}
+use Rattle.ring.proofs.Ring.{elements, sum-comm, conjugate-sum, conjugate-negation}
 use Rattle.ring.proofs.Root2.{root2-squared}
 use Rattle.matrix.specs.declared.Matrix.{Matrix}
 use Rattle.matrix.specs.Matrix.{matrix, times, Same, Equal-over}
@@ -176,9 +176,6 @@ X-restored r =
     (lower-of (m .bottom .left) (m .top .left)) (lower-of (m .bottom .right) (m .top .right))
     (upper-entry (m .bottom .left) (m .top .left)) (upper-entry (m .bottom .right) (m .top .right))
 
-sum-swap : (x y : Element) → sum x y ≡ sum y x
-sum-swap x y = solve elements (x ∷ y ∷ []) (var 0 ⊕ var 1) (var 1 ⊕ var 0) tt
-
 pub X-isometry : (r : Rest) → Isometry (r .matrix) → Isometry (without-X r .matrix)
 unfolding record-without-X
 X-isometry r i =
@@ -188,9 +185,9 @@ X-isometry r i =
     let c = m .bottom .left in
     let d = m .bottom .right in
     record {
-      left = sum-swap (product c (conjugate c)) (product a (conjugate a)) ∙ i .left;
-      right = sum-swap (product d (conjugate d)) (product b (conjugate b)) ∙ i .right;
-      cross = sum-swap (product c (conjugate d)) (product a (conjugate b)) ∙ i .cross;
+      left = sum-comm (product c (conjugate c)) (product a (conjugate a)) ∙ i .left;
+      right = sum-comm (product d (conjugate d)) (product b (conjugate b)) ∙ i .right;
+      cross = sum-comm (product c (conjugate d)) (product a (conjugate b)) ∙ i .cross;
     }
 
 -- the rows exchanged: y and z change their signs

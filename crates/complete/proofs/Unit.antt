@@ -1,6 +1,6 @@
 -- An element of squared size 2^k is (√2)^k times a power of ω, and the signs of its coefficients tell which power.
 -- By induction over k: √2 divides it where k is above 0, and at k = 0 one coefficient is 1 or −1. Assumes nothing.
-use mathlib.Core.Path.{_≡_, refl, ap, ap₂, sym, _∙_, subst}
+use mathlib.Core.Path.{_≡_, refl, ap, sym, _∙_, subst}
 use mathlib.Core.Bool.{Bool, true, false, cond, _&&_}
 use mathlib.Core.List.{[], _∷_}
 use mathlib.Core.Logic.{_⊎_, inl, inr, ⊎-elim}
@@ -8,7 +8,7 @@ use Prim.Native.Nat.{ℕ, zero, suc, _+_, _*_, _^_, _<_}
 use native.Mathlib.Nat.{mul-suc, pow-suc, suc-add, add-suc}
 use native.Mathlib.Omega.{arith}
 use lib.IntN.{ℤ, pos, negsuc, _+ℤ_, natAbs}
-use lib.Dec.{lit<, leb·zero, leb·suc-suc}
+use lib.Dec.{lit<, leb·zero, leb·suc-suc, eqb, eqb→eq, T as Holds}
 use lib.Signed.{ltZ}
 use Rattle.whole.proofs.Solver.{var, con, _⊕_, _⊗_, ⊖_, solve}
 use Rattle.whole.proofs.Parity.{odd, differ, odd-equation}
@@ -17,8 +17,10 @@ use Rattle.ring.specs.declared.Element.{Element}
 use Rattle.ring.specs.Element.{element, one, omega as ω, root2, sum, product, multiple, turned, conjugate, size-whole, size-root2, root2-power}
 use Rattle.ring.proofs.Formal.{_*ᶠ_, conjugateᶠ, xᶠ, coefficients, coefficientwise}
 use Rattle.ring.proofs.Ring.{elements, conjugate-product, product-assoc}
-use Rattle.ring.proofs.Root2.{root2-twice, root2-cancel, two-power}
-use Rattle.ring.proofs.Divide.{over-root2 as divided, Even-pairs, divides}
+use Rattle.ring.proofs.Root2.{root2-twice, root2-cancel, two-power, conjugate-root2}
+use Rattle.ring.proofs.Divided.{over-root2 as divided, Even-pairs, divides}
+use Rattle.matrix.proofs.Small.{square, size-is-squares}
+use Rattle.form.proofs.Every.{every, every-at}
 use Rattle.complete.specs.Vector.{number, real}
 use Rattle.complete.specs.Descent.{by-sign, phase}
 use Rattle.complete.proofs.Norm.{realᶠ}
@@ -76,10 +78,6 @@ pairs {k} {u} s =
     bits-of true true true false e f = (refl, e)
     bits-of true true true true e f = (refl, refl)
 
-conjugate-root2 : conjugate root2 ≡ root2
-unfolding conjugate root2
-conjugate-root2 = refl
-
 divided-size : {k : ℕ} {u : Element} → Of-size (suc k) u → Of-size k (divided u)
 unfolding root2-power
 divided-size {k} {u} s =
@@ -130,14 +128,8 @@ unit-phase-at-zero : (u : Element) → Of-size 0 u → (j : ℕ) × Is-phase 0 u
 unfolding size-whole omega-power root2-power product sum multiple turned ω one
 unit-phase-at-zero u s = by (which (square (u .a0)) (square (u .a1)) (square (u .a2)) (square (u .a3)) total)
   where
-    square : ℤ → ℕ
-    square a = natAbs a * natAbs a
-
     total : square (u .a0) + square (u .a1) + square (u .a2) + square (u .a3) ≡ 1
-    total =
-        ap natAbs
-        (sym (ap₂ _+ℤ_ (ap₂ _+ℤ_ (ap₂ _+ℤ_ (square-size (u .a0)) (square-size (u .a1))) (square-size (u .a2))) (square-size (u .a3)))
-        ∙ size-whole-of s)
+    total = ap natAbs (sym (size-is-squares u) ∙ size-whole-of s)
 
     zero-of : (a : ℤ) → square a ≡ 0 → a ≡ pos 0
     zero-of a e = square-zero a (square-size a ∙ ap pos e)
@@ -191,35 +183,22 @@ double-phase : (x : Element) → phase (sum x x) ≡ phase x
 unfolding phase sum
 double-phase x = simp double-sign
 
--- at k = 0 and at k = 1, of each of the eight powers
-whole-phase : (j : ℕ) → j < 8 → phase (product (root2-power 0) (omega-power j)) ≡ j
-unfolding phase by-sign omega-power root2-power product sum multiple turned ω one
-whole-phase zero below = refl
-whole-phase (suc zero) below = refl
-whole-phase (suc (suc zero)) below = refl
-whole-phase (suc (suc (suc zero))) below = refl
-whole-phase (suc (suc (suc (suc zero)))) below = refl
-whole-phase (suc (suc (suc (suc (suc zero))))) below = refl
-whole-phase (suc (suc (suc (suc (suc (suc zero)))))) below = refl
-whole-phase (suc (suc (suc (suc (suc (suc (suc zero))))))) below = refl
-whole-phase (suc (suc (suc (suc (suc (suc (suc (suc j)))))))) below = absurd (omega arith)
+-- at k = 0 and at k = 1, of each of the eight powers, by one test
+phase-test : ℕ → ℕ → Bool
+phase-test k j = eqb (phase (product (root2-power k) (omega-power j))) j
 
-root2-phase : (j : ℕ) → j < 8 → phase (product (root2-power 1) (omega-power j)) ≡ j
-unfolding phase by-sign omega-power root2-power product sum multiple turned ω one root2
-root2-phase zero below = refl
-root2-phase (suc zero) below = refl
-root2-phase (suc (suc zero)) below = refl
-root2-phase (suc (suc (suc zero))) below = refl
-root2-phase (suc (suc (suc (suc zero)))) below = refl
-root2-phase (suc (suc (suc (suc (suc zero))))) below = refl
-root2-phase (suc (suc (suc (suc (suc (suc zero)))))) below = refl
-root2-phase (suc (suc (suc (suc (suc (suc (suc zero))))))) below = refl
-root2-phase (suc (suc (suc (suc (suc (suc (suc (suc j)))))))) below = absurd (omega arith)
+tested-phase : (k : ℕ) → Holds (every 8 (phase-test k)) → (j : ℕ) → j < 8 → phase (product (root2-power k) (omega-power j)) ≡ j
+unfolding phase-test
+tested-phase k h j below = eqb→eq (phase (product (root2-power k) (omega-power j))) j (every-at 8 (phase-test k) h j below)
+
+low-phases : Holds (every 8 (phase-test 0)) × Holds (every 8 (phase-test 1))
+unfolding every phase-test phase by-sign omega-power root2-power product sum multiple turned ω one root2
+low-phases = (tt, tt)
 
 power-phase : (k j : ℕ) → j < 8 → phase (product (root2-power k) (omega-power j)) ≡ j
 unfolding root2-power
-power-phase zero j below = whole-phase j below
-power-phase (suc zero) j below = root2-phase j below
+power-phase zero j below = tested-phase 0 (low-phases .0) j below
+power-phase (suc zero) j below = tested-phase 1 (low-phases .1) j below
 power-phase (suc (suc k)) j below =
     ap phase
     (solve elements (root2 ∷ root2-power k ∷ omega-power j ∷ []) ((var 0 ⊗ (var 0 ⊗ var 1)) ⊗ var 2) (var 0 ⊗ (var 0 ⊗ (var 1 ⊗ var 2))) tt

@@ -10,8 +10,7 @@ use Rattle.ring.specs.declared.Element.{Element}
 use Rattle.ring.specs.Element.{root2, product}
 use Rattle.ring.specs.Divided.{Root2-divides}
 use Rattle.ring.proofs.Root2.{root2-cancel}
-use Rattle.ring.proofs.Divide.{over-root2, Even-pairs, divides, even-pairs}
-use Rattle.ring.proofs.Divided.{pairs-of-divided, divided-of-pairs}
+use Rattle.ring.proofs.Divided.{over-root2, Even-pairs, divides, even-pairs, pairs-of-divided, divided-of-pairs}
 use Rattle.matrix.specs.declared.Matrix.{Matrix}
 use Rattle.matrix.specs.Matrix.{matrix, Same}
 use Rattle.matrix.proofs.Entries.{equal-entries}

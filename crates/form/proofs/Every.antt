@@ -3,18 +3,15 @@ use Prim.Native.Nat.{ℕ, zero, suc, _<_}
 use native.Mathlib.Nat.{not-suc-le-zero}
 use native.Mathlib.Decide.{decLt}
 use native.Mathlib.Omega.{arith}
-use mathlib.Core.Bool.{Bool, true, false, _&&_}
+use mathlib.Core.Bool.{Bool, true, _&&_}
 use mathlib.Core.Path.{_≡_, subst}
 use lib.Dec.{T as Holds}
+use Rattle.matrix.proofs.Test.{both}
 
 -- the test holds below n
 unfoldable pub every : ℕ → (ℕ → Bool) → Bool
 every zero test = true
 every (suc n) test = test n && every n test
-
-pub both : (s t : Bool) → Holds (s && t) → Holds s × Holds t
-both true t h = (tt, h)
-both false t h = (absurd h, absurd h)
 
 at-last : (n k : ℕ) (test : ℕ → Bool) → Holds (test n) → (k < n → Holds (test k)) → k < suc n → Dec (k < n) → Holds (test k)
 at-last n k test last earlier below (yes less) = earlier less

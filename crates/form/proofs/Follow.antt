@@ -10,8 +10,9 @@ use lib.Dec.{ltb, ltb→lt, eqb, eqb→eq, T as Holds}
 use lib.ListN.{length, drop, getD, length-append}
 use borrow.Author.Tests.{ltb-true, ltb-false, ne-eqb}
 use Rattle.matrix.specs.Letter.{H, S, W, X}
+use Rattle.matrix.proofs.Test.{both}
 use Rattle.form.specs.Tail.{tails, tail-b, tail-c, tail-a, head-text, tail-text}
-use Rattle.form.proofs.Every.{every, every-at, both}
+use Rattle.form.proofs.Every.{every, every-at}
 use Rattle.form.proofs.Grammar.{tails-distinct}
 
 -- the tail m and one byte more is a tail

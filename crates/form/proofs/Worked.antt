@@ -6,11 +6,11 @@ use mathlib.Core.List.{List, [], _∷_}
 use Prim.Native.Nat.{ℕ}
 use lib.Dec.{T as Holds, eqb, eqb→eq, ltb, ltb→lt}
 use Rattle.whole.specs.List.{Every, none, more}
-use Rattle.ring.specs.Element.{nothing, one, omega as ω, omega2, root2, root2-power, sum, negation, multiple, turned, product}
+use Rattle.ring.specs.Element.{nothing, one, omega as ω, omega2, sum, negation, multiple, turned, product}
 use Rattle.matrix.specs.Matrix.{identity, times}
 use Rattle.matrix.specs.Text.{bytes}
 use Rattle.matrix.specs.Letter.{matrix-of, gate, gate-H, gate-S, gate-T, gate-W, gate-X, gate-Y, gate-Z}
-use Rattle.matrix.proofs.Test.{both, whole-test, element-test, over-test, same-test, same-by-test}
+use Rattle.matrix.proofs.Test.{both, whole-test, element-test, raised, over-test, same-test, same-by-test}
 use Rattle.form.specs.Tail.{tails, tail-text, head-text}
 use Rattle.form.specs.Form.{form-text, front-text, syllables-text, syllable-text}
 use Rattle.form.specs.Worked.{Row, table, Right}
@@ -55,5 +55,5 @@ every-right (r ∷ rest) h = let (first, others) = both (row-test r) (every-test
 
 -- each string of the table has the form beside it
 pub worked-cases : Every Right table
-unfolding table every-test row-test text-test bytes same-test over-test element-test whole-test form-text front-text syllables-text syllable-text tail-text head-text matrix-of gate gate-H gate-S gate-T gate-W gate-X gate-Y gate-Z identity times nothing one ω omega2 root2 root2-power sum negation multiple turned product
+unfolding table every-test row-test text-test bytes same-test over-test raised element-test whole-test form-text front-text syllables-text syllable-text tail-text head-text matrix-of gate gate-H gate-S gate-T gate-W gate-X gate-Y gate-Z identity times nothing one ω omega2 sum negation multiple turned product
 worked-cases = every-right table tt

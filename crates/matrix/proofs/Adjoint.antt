@@ -2,55 +2,38 @@
 -- meaning, and that of a unitary matrix is its inverse, so a unitary factor on the left may be cancelled. Assumes nothing.
 use mathlib.Core.Path.{_≡_, refl, ap, ap₂, sym, _∙_}
 use mathlib.Core.List.{[], _∷_}
-use Prim.Native.Nat.{ℕ, zero, suc, _+_}
+use Prim.Native.Nat.{ℕ, _+_}
 use native.Mathlib.Nat.{add-comm}
 use Rattle.whole.proofs.Solver.{var, con, _⊗_, solve}
 use lib.IntN.{pos}
 use Rattle.ring.specs.declared.Element.{Element}
-use Rattle.ring.specs.Element.{nothing, one, root2, sum, product, conjugate, root2-power}
-use Rattle.ring.proofs.Ring.{elements, conjugate-sum, conjugate-product, conjugate-conjugate, product-comm, product-one}
+use Rattle.ring.specs.Element.{nothing, one, sum, product, conjugate, root2-power}
+use Rattle.ring.proofs.Ring.{elements, conjugate-dot, product-comm, product-one}
 use Rattle.matrix.specs.declared.Matrix.{Matrix}
 use Rattle.matrix.specs.Matrix.{identity, times, adjoint, Equal-over, Same, Unitary}
 use Rattle.matrix.proofs.Entries.{equal-entries}
 use Rattle.matrix.proofs.Times.{times-assoc, identity-times}
-use Rattle.matrix.proofs.Same.{same-of-equal, same-sym, same-trans, same-times-left, same-times-right}
-use Rattle.matrix.proofs.Unitary.{across, isometry-of-unitary}
+use Rattle.matrix.proofs.Same.{over-conjugate, same-of-equal, same-sym, same-trans, same-times-left, same-times-right}
+use Rattle.matrix.proofs.Unitary.{across, isometry-of-unitary, crossed-back}
 
 -- one entry of the conjugate transpose of a product
-conjugate-dot : (a b c d : Element) →
+conjugate-entry : (a b c d : Element) →
     conjugate (sum (product a b) (product c d)) ≡ sum (product (conjugate b) (conjugate a)) (product (conjugate d) (conjugate c))
-conjugate-dot a b c d =
-    conjugate-sum (product a b) (product c d)
-    ∙ ap₂ sum (conjugate-product a b ∙ product-comm (conjugate a) (conjugate b))
-    (conjugate-product c d ∙ product-comm (conjugate c) (conjugate d))
+conjugate-entry a b c d =
+    conjugate-dot a c b d ∙ ap₂ sum (product-comm (conjugate a) (conjugate b)) (product-comm (conjugate c) (conjugate d))
 
 pub adjoint-times : (m n : Matrix) → adjoint (times m n) ≡ times (adjoint n) (adjoint m)
 unfolding adjoint times
 adjoint-times m n =
     equal-entries (add-comm (m .exponent) (n .exponent))
-    (conjugate-dot (m .top .left) (n .top .left) (m .top .right) (n .bottom .left))
-    (conjugate-dot (m .bottom .left) (n .top .left) (m .bottom .right) (n .bottom .left))
-    (conjugate-dot (m .top .left) (n .top .right) (m .top .right) (n .bottom .right))
-    (conjugate-dot (m .bottom .left) (n .top .right) (m .bottom .right) (n .bottom .right))
+    (conjugate-entry (m .top .left) (n .top .left) (m .top .right) (n .bottom .left))
+    (conjugate-entry (m .bottom .left) (n .top .left) (m .bottom .right) (n .bottom .left))
+    (conjugate-entry (m .top .left) (n .top .right) (m .top .right) (n .bottom .right))
+    (conjugate-entry (m .bottom .left) (n .top .right) (m .bottom .right) (n .bottom .right))
 
 pub adjoint-identity : adjoint identity ≡ identity
 unfolding adjoint identity conjugate one nothing
 adjoint-identity = refl
-
-real-root2 : conjugate root2 ≡ root2
-unfolding conjugate root2
-real-root2 = refl
-
-real-power : (k : ℕ) → conjugate (root2-power k) ≡ root2-power k
-unfolding root2-power one conjugate
-real-power zero = refl
-real-power (suc k) = conjugate-product root2 (root2-power k) ∙ ap₂ product real-root2 (real-power k)
-
-over-conjugate : (k l : ℕ) (x y : Element) → Equal-over k l x y → Equal-over k l (conjugate x) (conjugate y)
-unfolding Equal-over
-over-conjugate k l x y e =
-    sym (conjugate-product (root2-power l) x ∙ ap (λ (r : Element). product r (conjugate x)) (real-power l))
-    ∙ ap conjugate e ∙ conjugate-product (root2-power k) y ∙ ap (λ (r : Element). product r (conjugate y)) (real-power k)
 
 pub same-adjoint : {m n : Matrix} → Same m n → Same (adjoint m) (adjoint n)
 unfolding adjoint
@@ -64,17 +47,7 @@ same-adjoint {m} {n} s =
     }
 
 -- ---- the inverse of a unitary matrix
-conjugate-nothing : conjugate nothing ≡ nothing
-unfolding conjugate nothing
-conjugate-nothing = refl
-
--- a column's conjugate times another column
-crossed : (a b c d : Element) → sum (product (conjugate a) b) (product (conjugate c) d) ≡ conjugate (across a c b d)
-crossed a b c d =
-    ap₂ sum (product-comm (conjugate a) b) (product-comm (conjugate c) d)
-    ∙ sym (conjugate-dot a (conjugate b) c (conjugate d)
-    ∙ ap₂ (λ (x y : Element). sum (product x (conjugate a)) (product y (conjugate c))) (conjugate-conjugate b) (conjugate-conjugate d))
-
+-- a column times the conjugate of another, the factors exchanged
 commuted : (a b c d : Element) → sum (product (conjugate b) a) (product (conjugate d) c) ≡ across a c b d
 commuted a b c d = ap₂ sum (product-comm (conjugate b) a) (product-comm (conjugate d) c)
 
@@ -98,7 +71,7 @@ adjoint-inverse {m} unitary =
     let d = m .bottom .right in
     record {
       top-left = over-one k _ (commuted a a c c ∙ i .left);
-      top-right = over-nothing k _ (crossed a b c d ∙ ap conjugate (i .cross) ∙ conjugate-nothing);
+      top-right = over-nothing k _ (crossed-back a b c d (i .cross));
       bottom-left = over-nothing k _ (commuted a b c d ∙ i .cross);
       bottom-right = over-one k _ (commuted b b d d ∙ i .right);
     }

@@ -6,15 +6,14 @@ use mathlib.Core.List.{List, [], _∷_}
 use Prim.Native.Nat.{ℕ, _^_}
 use native.Mathlib.Omega.{arith}
 use lib.Dec.{T as Holds}
-use lib.IntN.{ℤ, pos, _+ℤ_}
-use Rattle.ring.specs.declared.Element.{Element}
-use Rattle.ring.specs.Element.{element, nothing, one, omega as ω, omega2, root2, root2-power, sum, negation, multiple, turned, product, size-whole, size-root2}
+use lib.IntN.{pos, _+ℤ_}
+use Rattle.ring.specs.Element.{nothing, one, omega as ω, omega2, sum, negation, multiple, turned, product, size-whole, size-root2}
 use Rattle.matrix.specs.declared.Matrix.{Matrix}
-use Rattle.matrix.specs.Matrix.{matrix, identity, times, Same, Unitary}
+use Rattle.matrix.specs.Matrix.{matrix, identity, times, Unitary}
 use Rattle.matrix.specs.Letter.{matrix-of, gate, gate-H, gate-S, gate-T, gate-W, gate-X, gate-Y, gate-Z}
 use Rattle.matrix.specs.Text.{bytes}
 use Rattle.matrix.specs.Identities.{Identity, identities, Hold}
-use Rattle.matrix.proofs.Test.{both, whole-test, element-test, over-test, same-test, same-by-test}
+use Rattle.matrix.proofs.Test.{both, whole-test, element-test, raised, over-test, same-test, same-by-test}
 
 hold-test : List Identity → Bool
 hold-test [] = true
@@ -28,7 +27,7 @@ tested-hold (e ∷ rest) h =
     (same-by-test (matrix-of (e .left)) (matrix-of (e .right)) first, tested-hold rest others)
 
 pub identities-hold : Hold identities
-unfolding identities hold-test bytes same-test over-test element-test whole-test matrix-of gate gate-H gate-S gate-T gate-W gate-X gate-Y gate-Z identity times nothing one ω omega2 root2 root2-power sum negation multiple turned product
+unfolding identities hold-test bytes same-test over-test raised element-test whole-test matrix-of gate gate-H gate-S gate-T gate-W gate-X gate-Y gate-Z identity times nothing one ω omega2 sum negation multiple turned product
 identities-hold = tested-hold identities tt
 
 -- diag(1+ω, 1+ω)/√2

@@ -12,7 +12,7 @@ use Rattle.ring.specs.declared.Element.{Element}
 use Rattle.ring.specs.Element.{root2, product, root2-power}
 use Rattle.ring.proofs.Ring.{elements}
 use Rattle.ring.proofs.Root2.{root2-power-cancel, root2-power-plus}
-use Rattle.ring.proofs.Divide.{over-root2, Even-pairs, divides, even-pairs, decide-pairs}
+use Rattle.ring.proofs.Divided.{over-root2, Even-pairs, divides, even-pairs, decide-pairs}
 use Rattle.matrix.specs.declared.Matrix.{Matrix}
 use Rattle.matrix.specs.Matrix.{matrix, Equal-over, Same, Least, Least-record}
 use Rattle.matrix.proofs.Entries.{equal-entries}

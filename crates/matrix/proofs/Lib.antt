@@ -4,6 +4,7 @@ pub mod Same
 pub mod Letter
 pub mod Test
 pub mod Unitary
+pub mod Small
 pub mod Least
 pub mod Identities
 pub mod Adjoint

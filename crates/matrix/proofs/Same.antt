@@ -1,15 +1,14 @@
--- Equality in meaning is an equivalence, and products respect it. Assumes nothing.
-use mathlib.Core.Path.{_≡_, refl, ap, ap₂, sym, _∙_, subst}
+-- Equality in meaning is an equivalence, and products and conjugates respect it. Assumes nothing.
+use mathlib.Core.Path.{_≡_, refl, ap, sym, _∙_, subst}
 use mathlib.Core.List.{[], _∷_}
 use Prim.Native.Nat.{ℕ, _+_}
-use Rattle.whole.proofs.Solver.{Expr, var, con, _⊕_, _⊗_, ⊖_, solve, combine, given, done}
-use lib.IntN.{pos}
+use Rattle.whole.proofs.Solver.{var, _⊕_, _⊗_, combine, given, done}
 use Rattle.ring.specs.declared.Element.{Element}
-use Rattle.ring.specs.Element.{sum, product, root2-power}
-use Rattle.ring.proofs.Ring.{elements}
-use Rattle.ring.proofs.Root2.{root2-power-cancel, root2-power-plus}
+use Rattle.ring.specs.Element.{sum, product, conjugate, root2-power}
+use Rattle.ring.proofs.Ring.{elements, conjugate-product}
+use Rattle.ring.proofs.Root2.{root2-power-cancel, root2-power-plus, conjugate-root2-power}
 use Rattle.matrix.specs.declared.Matrix.{Matrix}
-use Rattle.matrix.specs.Matrix.{matrix, times, Equal-over, Same}
+use Rattle.matrix.specs.Matrix.{times, Equal-over, Same}
 
 -- equality over powers of √2: an equivalence between elements over exponents
 over-refl : (k : ℕ) (x : Element) → Equal-over k k x x
@@ -27,6 +26,14 @@ over-trans k l m x y z e f =
     (combine elements (root2-power k ∷ root2-power l ∷ root2-power m ∷ x ∷ y ∷ z ∷ [])
     (given (var 2) (var 1 ⊗ var 3) (var 0 ⊗ var 4) e (given (var 0) (var 2 ⊗ var 4) (var 1 ⊗ var 5) f done))
     (var 1 ⊗ (var 2 ⊗ var 3)) (var 1 ⊗ (var 0 ⊗ var 5)) tt)
+
+-- conjugates of equal entries are equal
+pub over-conjugate : (k l : ℕ) (x y : Element) → Equal-over k l x y → Equal-over k l (conjugate x) (conjugate y)
+unfolding Equal-over
+over-conjugate k l x y e = sym (scaled l x) ∙ ap conjugate e ∙ scaled k y
+  where
+    scaled : (n : ℕ) (z : Element) → conjugate (product (root2-power n) z) ≡ product (root2-power n) (conjugate z)
+    scaled n z = conjugate-product (root2-power n) z ∙ ap (λ (r : Element). product r (conjugate z)) (conjugate-root2-power n)
 
 -- a row times a column, over powers of √2
 over-dot : (k l k' l' : ℕ) (a b p q a' b' p' q' : Element) →

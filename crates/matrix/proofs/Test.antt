@@ -1,11 +1,14 @@
--- Equality in meaning of two matrices as a test that computes, and that the test is sound. Assumes nothing.
-use mathlib.Core.Path.{_≡_, refl, ap}
+-- Equality in meaning of two matrices as a quick test, with no product of elements, and that the test is sound.
+-- Assumes nothing.
+use mathlib.Core.Path.{_≡_, ap, sym, _∙_}
 use mathlib.Core.Bool.{Bool, true, false, _&&_}
-use Prim.Native.Nat.{ℕ}
+use Prim.Native.Nat.{ℕ, zero, suc}
 use lib.Dec.{eqb, eqb→eq, T as Holds}
-use lib.IntN.{ℤ, pos, negsuc}
+use lib.IntN.{ℤ, pos, negsuc, _+ℤ_, _-ℤ_}
 use Rattle.ring.specs.declared.Element.{Element}
-use Rattle.ring.specs.Element.{element, product, root2-power}
+use Rattle.ring.specs.Element.{element, one, root2, product, root2-power}
+use Rattle.ring.proofs.Ring.{product-assoc, product-comm, product-one}
+use Rattle.ring.proofs.Root2.{root2-times}
 use Rattle.matrix.specs.declared.Matrix.{Matrix}
 use Rattle.matrix.specs.Matrix.{Same, Equal-over}
 
@@ -41,12 +44,26 @@ element-equal x y h =
     element (whole-equal (x .a0) (y .a0) (first .0) i) (whole-equal (x .a1) (y .a1) (second .0) i)
     (whole-equal (x .a2) (y .a2) (third .0) i) (whole-equal (x .a3) (y .a3) (third .1) i)
 
+-- (√2)^k times an element, with no product
+unfoldable pub raised : ℕ → Element → Element
+raised zero x = x
+raised (suc k) x =
+    let y = raised k x in element (y .a1 -ℤ y .a3) (y .a0 +ℤ y .a2) (y .a1 +ℤ y .a3) (y .a2 -ℤ y .a0)
+
+raised-is-product : (k : ℕ) (x : Element) → raised k x ≡ product (root2-power k) x
+unfolding raised root2-power
+raised-is-product zero x = sym (product-comm one x ∙ product-one x)
+raised-is-product (suc k) x =
+    sym (root2-times (raised k x))
+    ∙ ap (product root2) (raised-is-product k x)
+    ∙ sym (product-assoc root2 (root2-power k) x)
+
 unfoldable pub over-test : ℕ → ℕ → Element → Element → Bool
-over-test k l x y = element-test (product (root2-power l) x) (product (root2-power k) y)
+over-test k l x y = element-test (raised l x) (raised k y)
 
 over-equal : (k l : ℕ) (x y : Element) → Holds (over-test k l x y) → Equal-over k l x y
 unfolding over-test Equal-over
-over-equal k l x y h = element-equal (product (root2-power l) x) (product (root2-power k) y) h
+over-equal k l x y h = sym (raised-is-product l x) ∙ element-equal (raised l x) (raised k y) h ∙ raised-is-product k y
 
 -- two matrices are equal in meaning
 unfoldable pub same-test : Matrix → Matrix → Bool

@@ -1,16 +1,16 @@
 -- The product of matrix records is associative and has its identity, and the matrix of a joined string is the product
 -- of the matrices. The elements' identities are the solver's. Assumes nothing.
-use mathlib.Core.Path.{_≡_, refl, ap, sym, _∙_}
+use mathlib.Core.Path.{_≡_, ap, sym, _∙_}
 use mathlib.Core.List.{List, [], _∷_, _++_}
 use Prim.Native.Nat.{ℕ, _+_}
 use native.Mathlib.Nat.{add-assoc, add-zero, zero-add}
-use Rattle.whole.proofs.Solver.{Expr, var, con, _⊕_, _⊗_, solve}
+use Rattle.whole.proofs.Solver.{var, con, _⊕_, _⊗_, solve}
 use lib.IntN.{pos}
 use Rattle.ring.specs.declared.Element.{Element}
 use Rattle.ring.specs.Element.{nothing, one, sum, product}
 use Rattle.ring.proofs.Ring.{elements}
 use Rattle.matrix.specs.declared.Matrix.{Matrix}
-use Rattle.matrix.specs.Matrix.{matrix, identity, times}
+use Rattle.matrix.specs.Matrix.{identity, times}
 use Rattle.matrix.specs.Letter.{gate, matrix-of}
 use Rattle.matrix.proofs.Entries.{equal-entries}
 

@@ -3,20 +3,21 @@
 use mathlib.Core.Path.{_≡_, refl, ap, ap₂, sym, _∙_}
 use mathlib.Core.Bool.{true}
 use mathlib.Core.List.{List, [], _∷_}
-use Prim.Native.Nat.{ℕ, zero, suc, _+_, _^_}
+use Prim.Native.Nat.{ℕ, _+_, _^_}
 use native.Mathlib.Omega.{arith}
 use lib.IntN.{ℤ, pos, _+ℤ_, negℤ}
 use Rattle.whole.specs.List.{none, more}
 use Rattle.whole.proofs.Ring.{times-none}
-use Rattle.whole.proofs.Solver.{Expr, var, con, _⊕_, _⊗_, ⊖_, solve, combine, given, done}
+use Rattle.whole.proofs.Solver.{var, con, _⊕_, _⊗_, ⊖_, solve, combine, given, done}
 use Rattle.ring.specs.declared.Element.{Element}
 use Rattle.ring.specs.Element.{element, nothing, one, omega as ω, omega2, root2, sum, product, multiple, turned, negation, conjugate, size-whole, size-root2, root2-power}
 use Rattle.ring.proofs.Formal.{formal, _+ᶠ_, _*ᶠ_, wholeᶠ, root2ᶠ, coefficientwise}
-use Rattle.ring.proofs.Ring.{elements, whole-element, whole-sum, product-comm, conjugate-sum, conjugate-product, conjugate-conjugate, size-is-product}
+use Rattle.ring.proofs.Ring.{elements, whole-element, whole-sum, product-comm, conjugate-conjugate, conjugate-dot, conjugate-nothing, size-is-product}
 use Rattle.ring.proofs.Root2.{two-power, root2-power-plus, root2-power-cancel}
 use Rattle.matrix.specs.declared.Matrix.{Matrix}
-use Rattle.matrix.specs.Matrix.{matrix, identity, times, adjoint, Equal-over, Same, Unitary}
+use Rattle.matrix.specs.Matrix.{identity, times, adjoint, Equal-over, Same, Unitary}
 use Rattle.matrix.specs.Letter.{gate, gate-H, gate-S, gate-T, gate-W, gate-X, gate-Y, gate-Z, is-letter, matrix-of, Letters}
+use Rattle.matrix.proofs.Same.{over-conjugate}
 use Rattle.matrix.proofs.Letter.{by-letter}
 
 -- a column times the conjugate of another
@@ -37,7 +38,7 @@ whole-and-root2 s r =
     (formal (var 0) (var 1) (con (pos 0)) (⊖ var 1)) (tt, tt, tt, tt)
 
 -- the squared sizes of a column are the sum of the whole parts, and √2 times the sum of the √2 parts
-column-sizes : (x y : Element) →
+pub column-sizes : (x y : Element) →
     across x y x y
     ≡ element (size-whole x +ℤ size-whole y) (size-root2 x +ℤ size-root2 y) (pos 0) (negℤ (size-root2 x +ℤ size-root2 y))
 column-sizes x y =
@@ -75,14 +76,10 @@ unitary-of-isometry {m} i =
     }
 
 -- the columns crossed the other way round
-conjugate-nothing : conjugate nothing ≡ nothing
-unfolding conjugate nothing
-conjugate-nothing = refl
-
-crossed-back : (a b c d : Element) → across a c b d ≡ nothing → sum (product (conjugate a) b) (product (conjugate c) d) ≡ nothing
+pub crossed-back : (a b c d : Element) → across a c b d ≡ nothing → sum (product (conjugate a) b) (product (conjugate c) d) ≡ nothing
 crossed-back a b c d e =
-    sym (conjugate-sum (product a (conjugate b)) (product c (conjugate d))
-    ∙ ap₂ sum (conjugate-product a (conjugate b) ∙ ap (product (conjugate a)) (conjugate-conjugate b)) (conjugate-product c (conjugate d) ∙ ap (product (conjugate c)) (conjugate-conjugate d)))
+    sym (conjugate-dot a c (conjugate b) (conjugate d)
+    ∙ ap₂ (λ (x y : Element). sum (product (conjugate a) x) (product (conjugate c) y)) (conjugate-conjugate b) (conjugate-conjugate d))
     ∙ ap conjugate e ∙ conjugate-nothing
 
 -- a matrix with orthogonal columns of one size multiplies the product of any two columns by that size
@@ -106,9 +103,6 @@ across-times m i e g f h =
     ((var 0 ⊗ var 8 ⊕ var 1 ⊗ var 9) ⊗ (var 4 ⊗ var 10 ⊕ var 5 ⊗ var 11) ⊕ (var 2 ⊗ var 8 ⊕ var 3 ⊗ var 9) ⊗ (var 6 ⊗ var 10 ⊕ var 7 ⊗ var 11))
     (var 12 ⊗ (var 8 ⊗ var 10 ⊕ var 9 ⊗ var 11))
     tt
-  where
-    conjugate-dot : (x y u v : Element) → conjugate (sum (product x u) (product y v)) ≡ sum (product (conjugate x) (conjugate u)) (product (conjugate y) (conjugate v))
-    conjugate-dot x y u v = conjugate-sum (product x u) (product y v) ∙ ap₂ sum (conjugate-product x u) (conjugate-product y v)
 
 -- the size of a product's columns
 doubled-sum : (k l : ℕ) → product (root2-power (k + k)) (root2-power (l + l)) ≡ root2-power (k + l + (k + l))
@@ -169,28 +163,6 @@ isometry-adjoint {m} i =
           (given (⊖ (var 4 ⊗ var 2)) (var 1 ⊗ var 5 ⊕ var 3 ⊗ var 7) (var 8) (i .right) done))))
           (var 8 ⊗ (var 4 ⊗ var 2 ⊕ var 5 ⊗ var 3)) (var 8 ⊗ con (pos 0)) tt);
     }
-
-conjugate-one : conjugate one ≡ one
-unfolding conjugate one
-conjugate-one = refl
-
-conjugate-root2 : conjugate root2 ≡ root2
-unfolding conjugate root2
-conjugate-root2 = refl
-
--- √2 is real, and so are its powers
-conjugate-root2-power : (k : ℕ) → conjugate (root2-power k) ≡ root2-power k
-unfolding root2-power
-conjugate-root2-power zero = conjugate-one
-conjugate-root2-power (suc k) = conjugate-product root2 (root2-power k) ∙ ap₂ product conjugate-root2 (conjugate-root2-power k)
-
--- conjugates of equal entries are equal
-over-conjugate : (k l : ℕ) (x y : Element) → Equal-over k l x y → Equal-over k l (conjugate x) (conjugate y)
-unfolding Equal-over
-over-conjugate k l x y e = sym (scaled l x) ∙ ap conjugate e ∙ scaled k y
-  where
-    scaled : (n : ℕ) (z : Element) → conjugate (product (root2-power n) z) ≡ product (root2-power n) (conjugate z)
-    scaled n z = conjugate-product (root2-power n) z ∙ ap (λ (r : Element). product r (conjugate z)) (conjugate-root2-power n)
 
 -- products of columns, over the exponents doubled
 over-across : (k l : ℕ) (x y u v x' y' u' v' : Element) →
@@ -254,13 +226,7 @@ pub unitary-letter : (b : ℕ) → is-letter b ≡ true → Unitary (gate b)
 unfolding gate gate-H gate-S gate-T gate-W gate-X gate-Y gate-Z one nothing ω omega2 negation size-whole size-root2 sum product multiple turned conjugate
 unitary-letter b =
     by-letter (λ (l : ℕ). Unitary (gate l)) b
-    record { left-whole = refl; left-root2 = refl; right-whole = refl; right-root2 = refl; columns = refl }
-    record { left-whole = refl; left-root2 = refl; right-whole = refl; right-root2 = refl; columns = refl }
-    record { left-whole = refl; left-root2 = refl; right-whole = refl; right-root2 = refl; columns = refl }
-    record { left-whole = refl; left-root2 = refl; right-whole = refl; right-root2 = refl; columns = refl }
-    record { left-whole = refl; left-root2 = refl; right-whole = refl; right-root2 = refl; columns = refl }
-    record { left-whole = refl; left-root2 = refl; right-whole = refl; right-root2 = refl; columns = refl }
-    record { left-whole = refl; left-root2 = refl; right-whole = refl; right-root2 = refl; columns = refl }
+    (search) (search) (search) (search) (search) (search) (search)
 
 -- the matrix of a letter list is unitary
 pub unitary-matrix-of : (w : List ℕ) → Letters w → Unitary (matrix-of w)

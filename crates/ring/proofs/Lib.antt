@@ -1,7 +1,6 @@
 pub mod Formal
 pub mod Ring
 pub mod Root2
-pub mod Divide
 pub mod Bounds
 pub mod Halving
 pub mod Divided

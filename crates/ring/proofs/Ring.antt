@@ -1,5 +1,5 @@
 -- Z[ω] is a commutative ring, and conjugation respects its sum and product. Assumes nothing.
-use mathlib.Core.Path.{_≡_, refl}
+use mathlib.Core.Path.{_≡_, refl, ap₂, _∙_}
 use mathlib.Core.List.{[], _∷_}
 use Prim.Native.Nat.{ℕ}
 use lib.IntN.{ℤ, pos, _+ℤ_, _*ℤ_}
@@ -7,7 +7,7 @@ use Rattle.whole.proofs.Ring.{Ring}
 use Rattle.whole.proofs.Solver.{Expr, var, con, _⊕_, _⊗_, ⊖_}
 use Rattle.ring.specs.declared.Element.{Element}
 use Rattle.ring.specs.Element.{element, nothing, one, root2, sum, negation, multiple, turned, product, conjugate, size-whole, size-root2}
-use Rattle.ring.proofs.Formal.{formal, _+ᶠ_, _*ᶠ_, -ᶠ_, conjugateᶠ, wholeᶠ, root2ᶠ, xᶠ, yᶠ, zᶠ, coefficients, coefficientwise}
+use Rattle.ring.proofs.Formal.{_+ᶠ_, _*ᶠ_, -ᶠ_, conjugateᶠ, wholeᶠ, root2ᶠ, xᶠ, yᶠ, zᶠ, coefficients, coefficientwise}
 
 pub sum-assoc : (x y z : Element) → sum (sum x y) z ≡ sum x (sum y z)
 unfolding sum
@@ -101,6 +101,19 @@ conjugate-negation x = coefficientwise (coefficients (x ∷ [])) (conjugateᶠ (
 pub conjugate-conjugate : (x : Element) → conjugate (conjugate x) ≡ x
 unfolding conjugate
 conjugate-conjugate x = coefficientwise (coefficients (x ∷ [])) (conjugateᶠ (conjugateᶠ xᶠ)) xᶠ (tt, tt, tt, tt)
+
+-- also a row times a column
+pub conjugate-dot : (x y u v : Element) →
+    conjugate (sum (product x u) (product y v)) ≡ sum (product (conjugate x) (conjugate u)) (product (conjugate y) (conjugate v))
+conjugate-dot x y u v = conjugate-sum (product x u) (product y v) ∙ ap₂ sum (conjugate-product x u) (conjugate-product y v)
+
+pub conjugate-nothing : conjugate nothing ≡ nothing
+unfolding conjugate nothing
+conjugate-nothing = refl
+
+pub conjugate-one : conjugate one ≡ one
+unfolding conjugate one
+conjugate-one = refl
 
 -- "The squared size": an element times its conjugate is its whole part and √2 times its √2 part
 pub size-is-product : (x : Element) → product x (conjugate x) ≡ sum (whole-element (size-whole x)) (product (whole-element (size-root2 x)) root2)

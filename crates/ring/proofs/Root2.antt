@@ -1,15 +1,15 @@
--- √2: its square is two, it cancels, and so do its powers; (√2)^(2k) is 2^k. Assumes nothing.
+-- √2: its square is two, it cancels and is real, and so do and are its powers; (√2)^(2k) is 2^k. Assumes nothing.
 use mathlib.Core.Path.{_≡_, refl, ap, ap₂, sym, _∙_}
 use mathlib.Core.List.{[], _∷_}
 use Prim.Native.Nat.{ℕ, zero, suc, _+_, _*_, _^_}
 use native.Mathlib.Nat.{zero-add, suc-add, add-suc, pow-suc}
-use lib.IntN.{ℤ, pos, _+ℤ_, _-ℤ_, pos-*ℤ-pos}
-use Rattle.whole.proofs.Solver.{var, con, _⊕_, _⊗_, ⊖_, value, solve, combine, given, done}
+use lib.IntN.{pos, _+ℤ_, _-ℤ_}
+use Rattle.whole.proofs.Solver.{var, _⊕_, _⊗_, ⊖_, solve}
 use Rattle.whole.proofs.Cancellation.{double-cancel}
 use Rattle.ring.specs.declared.Element.{Element}
-use Rattle.ring.specs.Element.{element, one, root2, sum, multiple, turned, product, root2-power}
+use Rattle.ring.specs.Element.{element, one, root2, sum, multiple, turned, product, conjugate, root2-power}
 use Rattle.ring.proofs.Formal.{formal, _+ᶠ_, _*ᶠ_, root2ᶠ, xᶠ, coefficients, coefficientwise}
-use Rattle.ring.proofs.Ring.{elements, whole-element, whole-product, product-assoc, product-comm, product-one, whole-is-one}
+use Rattle.ring.proofs.Ring.{elements, whole-element, whole-product, product-assoc, product-comm, product-one, whole-is-one, conjugate-product, conjugate-one}
 
 -- "√2·√2 = 2"
 pub root2-squared : product root2 root2 ≡ whole-element (pos 2)
@@ -60,6 +60,16 @@ root2-power-plus zero n = ap root2-power (zero-add n) ∙ sym (product-comm one 
 root2-power-plus (suc m) n =
     ap root2-power (suc-add m n) ∙ ap (product root2) (root2-power-plus m n)
     ∙ sym (product-assoc root2 (root2-power m) (root2-power n))
+
+-- √2 is real, and so are its powers
+pub conjugate-root2 : conjugate root2 ≡ root2
+unfolding conjugate root2
+conjugate-root2 = refl
+
+pub conjugate-root2-power : (k : ℕ) → conjugate (root2-power k) ≡ root2-power k
+unfolding root2-power
+conjugate-root2-power zero = conjugate-one
+conjugate-root2-power (suc k) = conjugate-product root2 (root2-power k) ∙ ap₂ product conjugate-root2 (conjugate-root2-power k)
 
 -- (√2)^(2k) is 2^k
 pub two-power : (k : ℕ) → whole-element (pos (2 ^ k)) ≡ root2-power (k + k)

@@ -1,88 +1,21 @@
 -- Equality in meaning of two texts as a quick test, with no product of elements, and that the test is sound.
 -- Assumes nothing.
-use mathlib.Core.Path.{_≡_, ap, sym, _∙_, subst₂}
-use mathlib.Core.Bool.{Bool, _&&_}
+use mathlib.Core.Path.{subst₂}
+use mathlib.Core.Bool.{Bool}
 use mathlib.Core.List.{List}
-use Prim.Native.Nat.{ℕ, zero, suc}
-use lib.Dec.{eqb→eq, T as Holds}
-use lib.IntN.{ℤ, pos, negsuc, _+ℤ_, _-ℤ_}
-use Rattle.ring.specs.declared.Element.{Element}
-use Rattle.ring.specs.Element.{element, one, root2, product, root2-power}
-use Rattle.ring.proofs.Ring.{product-assoc, product-comm, product-one}
-use Rattle.ring.proofs.Root2.{root2-times}
-use Rattle.matrix.specs.declared.Matrix.{Matrix}
-use Rattle.matrix.specs.Matrix.{Same, Equal-over}
+use Prim.Native.Nat.{ℕ}
+use lib.Dec.{T as Holds}
+use Rattle.matrix.specs.Matrix.{Same}
 use Rattle.matrix.specs.Letter.{matrix-of}
-use Rattle.matrix.proofs.Test.{both, whole-test, element-test}
+use Rattle.matrix.proofs.Test.{whole-test, element-test, raised, over-test, same-test, same-by-test}
 use Rattle.tail.proofs.Action.{quick-matrix, quick-matrix-is-matrix}
-
-whole-equal : (x y : ℤ) → Holds (whole-test x y) → x ≡ y
-unfolding whole-test
-whole-equal (pos m) (pos n) h = ap pos (eqb→eq m n h)
-whole-equal (pos m) (negsuc n) h = absurd h
-whole-equal (negsuc m) (pos n) h = absurd h
-whole-equal (negsuc m) (negsuc n) h = ap negsuc (eqb→eq m n h)
-
-element-equal : (x y : Element) → Holds (element-test x y) → x ≡ y
-unfolding element-test
-element-equal x y h =
-    let first = both (whole-test (x .a0) (y .a0)) _ h in
-    let second = both (whole-test (x .a1) (y .a1)) _ (first .1) in
-    let third = both (whole-test (x .a2) (y .a2)) _ (second .1) in
-    λ i.
-    element (whole-equal (x .a0) (y .a0) (first .0) i) (whole-equal (x .a1) (y .a1) (second .0) i)
-    (whole-equal (x .a2) (y .a2) (third .0) i) (whole-equal (x .a3) (y .a3) (third .1) i)
-
--- (√2)^k times an element, with no product
-raised : ℕ → Element → Element
-raised zero x = x
-raised (suc k) x =
-    let y = raised k x in element (y .a1 -ℤ y .a3) (y .a0 +ℤ y .a2) (y .a1 +ℤ y .a3) (y .a2 -ℤ y .a0)
-
-raised-is-product : (k : ℕ) (x : Element) → raised k x ≡ product (root2-power k) x
-unfolding raised root2-power
-raised-is-product zero x = sym (product-comm one x ∙ product-one x)
-raised-is-product (suc k) x =
-    sym (root2-times (raised k x))
-    ∙ ap (product root2) (raised-is-product k x)
-    ∙ sym (product-assoc root2 (root2-power k) x)
-
-over-test : ℕ → ℕ → Element → Element → Bool
-over-test k l x y = element-test (raised l x) (raised k y)
-
-over-equal : (k l : ℕ) (x y : Element) → Holds (over-test k l x y) → Equal-over k l x y
-unfolding over-test Equal-over
-over-equal k l x y h =
-    sym (raised-is-product l x) ∙ element-equal (raised l x) (raised k y) h ∙ raised-is-product k y
-
-matrix-test : Matrix → Matrix → Bool
-matrix-test m n =
-    over-test (m .exponent) (n .exponent) (m .top .left) (n .top .left)
-    && (over-test (m .exponent) (n .exponent) (m .top .right) (n .top .right)
-    && (over-test (m .exponent) (n .exponent) (m .bottom .left) (n .bottom .left)
-    && over-test (m .exponent) (n .exponent) (m .bottom .right) (n .bottom .right)))
-
-matrix-same : (m n : Matrix) → Holds (matrix-test m n) → Same m n
-unfolding matrix-test
-matrix-same m n h =
-    let k = m .exponent in
-    let l = n .exponent in
-    let first = both (over-test k l (m .top .left) (n .top .left)) _ h in
-    let second = both (over-test k l (m .top .right) (n .top .right)) _ (first .1) in
-    let third = both (over-test k l (m .bottom .left) (n .bottom .left)) _ (second .1) in
-    record {
-      top-left = over-equal k l (m .top .left) (n .top .left) (first .0);
-      top-right = over-equal k l (m .top .right) (n .top .right) (second .0);
-      bottom-left = over-equal k l (m .bottom .left) (n .bottom .left) (third .0);
-      bottom-right = over-equal k l (m .bottom .right) (n .bottom .right) (third .1);
-    }
 
 -- two texts have the same matrix, phase included
 unfoldable pub texts-test : List ℕ → List ℕ → Bool
-unfolding matrix-test over-test raised element-test whole-test quick-matrix
-texts-test s t = matrix-test (quick-matrix s) (quick-matrix t)
+unfolding same-test over-test raised element-test whole-test quick-matrix
+texts-test s t = same-test (quick-matrix s) (quick-matrix t)
 
 pub texts-same : (s t : List ℕ) → Holds (texts-test s t) → Same (matrix-of s) (matrix-of t)
 unfolding texts-test
 texts-same s t h =
-    subst₂ Same (quick-matrix-is-matrix s) (quick-matrix-is-matrix t) (matrix-same (quick-matrix s) (quick-matrix t) h)
+    subst₂ Same (quick-matrix-is-matrix s) (quick-matrix-is-matrix t) (same-by-test (quick-matrix s) (quick-matrix t) h)
