@@ -11,11 +11,12 @@ use lib.Signed.{ltZ}
 use Rattle.whole.proofs.Parity.{odd, odd-times, odd-negate}
 use Rattle.whole.proofs.Cancellation.{square-size, square-zero}
 use Rattle.matrix.specs.Letter.{H, S, X}
+use Rattle.matrix.proofs.Small.{square}
 use Rattle.complete.specs.declared.Vector.{Vector}
 use Rattle.complete.specs.declared.Rest.{Rest}
 use Rattle.complete.specs.Vector.{Guided, number, negated}
 use Rattle.complete.specs.Descent.{without-S, without-H, without-X, odd-x, odd-y, off-y, off-x, downward, turned-up, axis-taken, upright, vector-without-S, vector-without-H, vector-without-X}
-use Rattle.complete.proofs.Norm.{Norm, square, norm-squares}
+use Rattle.complete.proofs.Norm.{Norm, norm-squares}
 use Rattle.complete.proofs.Syllable.{norm-of-guided, S-guided, H-guided, X-guided, guided-either, Restores, restores-nothing, restores-append, restores-either, S-restores, H-restores, X-restores}
 
 -- an odd number has a square above zero, and an even one no square one

@@ -17,6 +17,7 @@ use Rattle.ring.specs.Element.{element, omega2, sum, product, multiple, turned,
 use Rattle.ring.proofs.Formal.{Formal, formal, _+ᶠ_, _*ᶠ_, coefficientwise}
 use Rattle.ring.proofs.Ring.{elements, whole-element}
 use Rattle.ring.proofs.Root2.{root2-power-cancel, root2-power-plus, two-power}
+use Rattle.matrix.proofs.Small.{square}
 use Rattle.complete.specs.declared.Vector.{Vector}
 use Rattle.complete.specs.declared.Rest.{Rest}
 use Rattle.complete.specs.Vector.{real, Bloch, Led}
@@ -78,10 +79,6 @@ norm-of-led r d n b =
       whole-squares = ap (λ (z : Element). z .a0) e;
       no-root2 = double-cancel (value whole (numerators (r .vector)) root2-partᶠ) (pos 0) (ap (λ (z : Element). z .a1) e);
     }
-
--- the square of a number's size
-abbrev pub square : ℤ → ℕ
-square a = natAbs a * natAbs a
 
 -- the first of the two, between natural numbers
 pub norm-squares : {v : Vector} {n : ℕ} → Norm v n →

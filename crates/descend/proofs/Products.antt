@@ -1,29 +1,15 @@
--- The products of a record's first column, within the coefficient limit: they have room, and an element times its
--- conjugate is its squared size. Assumes nothing.
+-- The products of a record's first column have room, and an element times its conjugate is its squared size.
+-- Assumes nothing.
 use mathlib.Core.Path.{_≡_, sym, _∙_, ap, ap₂, subst}
 use Prim.Native.Nat.{_^_}
 use lib.Dec.{lit≤}
 use lib.IntN.{_-ℤ_}
 use Rattle.ring.specs.declared.Element.{Element}
 use Rattle.ring.specs.Element.{sum, negation, product, conjugate, size-whole, size-root2}
-use Rattle.ring.specs.Bounds.{Small, Factors}
-use Rattle.ring.proofs.Bounds.{stored, kept, small-more, small-conjugate, small-product, small-negation, small-sum}
+use Rattle.ring.specs.Bounds.{Small}
+use Rattle.ring.proofs.Bounds.{stored, kept, small-more, small-negation, small-sum}
 use Rattle.complete.specs.Vector.{number, real}
 use Rattle.complete.proofs.Unit.{size-real}
-
--- an element times the conjugate of another
-pub factors : {x y r : Element} → Small (2 ^ 20) x → Small (2 ^ 20) y → r ≡ conjugate y → Factors x r
-factors {x} h k e = record {
-  left = 2 ^ 20;
-  right = 2 ^ 20;
-  small-left = h;
-  small-right = subst (Small (2 ^ 20)) (sym e) (small-conjugate k);
-  room = record { left-room = lit≤ tt; right-room = lit≤ tt; room = lit≤ tt };
-}
-
-pub small-across : {x y c r : Element} → Small (2 ^ 20) x → Small (2 ^ 20) y → c ≡ conjugate y → r ≡ product x c → Small (2 ^ 60) r
-small-across {x} h k e f =
-    subst (Small (2 ^ 60)) (sym (f ∙ ap (product x) e)) (small-more (lit≤ tt) (small-product h (small-conjugate k)))
 
 pub roomy : {r : Element} → Small (2 ^ 60) r → Small (2 ^ 61) r
 roomy s = small-more (lit≤ tt) s

@@ -1,7 +1,6 @@
 pub mod Small
 pub mod Gates
 pub mod Reduced
-pub mod Letters
 pub mod Ending
 pub mod High
 pub mod Squeezed

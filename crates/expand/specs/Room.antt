@@ -1,12 +1,11 @@
 -- What a string's matrix is worked out with: how many T's the form of a record within the exponent limit may hold, the
--- letters of forms, the records whose coefficients leave room in 64 bits, and the steps down to the least record.
+-- records whose coefficients leave room in 64 bits, and the steps down to the least record.
 use Prim.Native.Nat.{ℕ, suc, _+_, _*_, _<_, _≤_}
 use mathlib.Core.Bool.{Bool, true, false}
 use mathlib.Core.Path.{_≡_}
 use Rattle.ring.specs.Divided.{Root2-divides}
 use Rattle.matrix.specs.declared.Matrix.{Matrix}
 use Rattle.matrix.specs.Matrix.{Same, Least, Unitary}
-use Rattle.matrix.specs.Letter.{H, S, T, W, X}
 use Rattle.answer.specs.Limits.{exponent-limit}
 
 -- "A matrix's form has T-count at most 2k + 1, so at most 81."
@@ -16,14 +15,6 @@ t-limit = 2 * exponent-limit + 1
 -- a form with so many T's has one H more at most
 abbrev pub h-limit : ℕ
 h-limit = t-limit + 1
-
--- the letters that forms are spelled with
-pub data Form-letter : ℕ → Type 0 where
-  letter-H : Form-letter H
-  letter-S : Form-letter S
-  letter-T : Form-letter T
-  letter-W : Form-letter W
-  letter-X : Form-letter X
 
 -- a unitary record with the exponent that so many H's give: its coefficients are then small
 pub record Roomy (m : Matrix) : Type 0 where

@@ -8,12 +8,14 @@ use matrix::Row;
 use ring::Element;
 ghost use Prim.Native.Nat.{_≤_};
 ghost use mathlib.Core.Path.{_≡_};
-ghost use Rattle.matrix.specs.Matrix.{identity, times, Least-record};
-ghost use Rattle.matrix.specs.Letter.{gate, gate-H, gate-S, gate-T, gate-W, gate-X, matrix-of};
-ghost use Rattle.form.specs.Form.{Form};
+ghost use Rattle.ring.specs.Element.{nothing};
+ghost use Rattle.ring.specs.Bounds.{Small};
+ghost use Rattle.matrix.specs.Matrix.{matrix, identity, times, Least-record};
+ghost use Rattle.matrix.specs.Letter.{gate, matrix-of};
+ghost use Rattle.form.specs.Form.{Form, Form-letter};
 ghost use Rattle.form.specs.Count.{t-count};
 ghost use Rattle.expand.specs.Expand.{said, String-to-matrix};
-ghost use Rattle.expand.specs.Room.{t-limit, Form-letter, Roomy, Reducible, Reduces, Lowered};
+ghost use Rattle.expand.specs.Room.{t-limit, Roomy, Reducible, Reduces, Lowered};
 
 // The T's that the form of a record within the exponent limit holds at most.
 const T_LIMIT: usize = 2 * (EXPONENT_LIMIT as usize) + 1;
@@ -27,70 +29,25 @@ pub enum Expanded {
 fn identity() -> Matrix
     ensures { λ r. ⌜ r ≡ identity ⌝ }
 {
-    let one = Element::ONE;
-    let nothing = Element {
-        a0: 0,
-        a1: 0,
-        a2: 0,
-        a3: 0,
-    };
     Matrix {
         exponent: 0,
         top: Row {
-            left: one,
-            right: nothing,
+            left: Element::ONE,
+            right: Element::NOTHING,
         },
         bottom: Row {
-            left: nothing,
-            right: one,
+            left: Element::NOTHING,
+            right: Element::ONE,
         },
     }
 }
 
-// H times a record.
-fn by_h(m: Matrix) -> Matrix
+// diag(u, w) times a record.
+fn by_diagonal(u: Element, w: Element, m: Matrix) -> Matrix
+    requires { ⌜ Small 1 u ⌝ }
+    requires { ⌜ Small 1 w ⌝ }
     requires { ⌜ Roomy m ⌝ }
-    ensures { λ r. ⌜ r ≡ times gate-H m ⌝ }
-{
-    let a = m.top.left;
-    let b = m.top.right;
-    let c = m.bottom.left;
-    let d = m.bottom.right;
-    Matrix {
-        exponent: m.exponent + 1,
-        top: Row {
-            left: a.plus(c),
-            right: b.plus(d),
-        },
-        bottom: Row {
-            left: a.plus(c.negated()),
-            right: b.plus(d.negated()),
-        },
-    }
-}
-
-// T times a record.
-fn by_t(m: Matrix) -> Matrix
-    requires { ⌜ Roomy m ⌝ }
-    ensures { λ r. ⌜ r ≡ times gate-T m ⌝ }
-{
-    let top = m.top;
-    let c = m.bottom.left;
-    let d = m.bottom.right;
-    Matrix {
-        exponent: m.exponent,
-        top,
-        bottom: Row {
-            left: c.turned(),
-            right: d.turned(),
-        },
-    }
-}
-
-// W times a record.
-fn by_w(m: Matrix) -> Matrix
-    requires { ⌜ Roomy m ⌝ }
-    ensures { λ r. ⌜ r ≡ times gate-W m ⌝ }
+    ensures { λ r. ⌜ r ≡ times (matrix 0 u nothing nothing w) m ⌝ }
 {
     let a = m.top.left;
     let b = m.top.right;
@@ -99,49 +56,28 @@ fn by_w(m: Matrix) -> Matrix
     Matrix {
         exponent: m.exponent,
         top: Row {
-            left: a.turned(),
-            right: b.turned(),
+            left: u.times(a),
+            right: u.times(b),
         },
         bottom: Row {
-            left: c.turned(),
-            right: d.turned(),
+            left: w.times(c),
+            right: w.times(d),
         },
     }
 }
 
-// X times a record.
-fn by_x(m: Matrix) -> Matrix
-    ensures { λ r. ⌜ r ≡ times gate-X m ⌝ }
-{
-    let top = m.top;
-    let bottom = m.bottom;
-    Matrix {
-        exponent: m.exponent,
-        top: bottom,
-        bottom: top,
-    }
-}
-
-// S times a record: S = TT.
-fn by_s(m: Matrix) -> Matrix
-    requires { ⌜ Roomy m ⌝ }
-    ensures { λ r. ⌜ r ≡ times gate-S m ⌝ }
-{
-    by_t(by_t(m))
-}
-
-// A letter of a form, its matrix times a record.
+// A letter of a form, its matrix times a record. H and X are their own inverses: they come on as they are taken off.
 fn prefixed(letter: u8, m: Matrix) -> Matrix
     requires { ⌜ Form-letter letter ⌝ }
     requires { ⌜ Roomy m ⌝ }
     ensures { λ r. ⌜ r ≡ times (gate letter) m ⌝ }
 {
     match letter {
-        b'H' => by_h(m),
-        b'S' => by_s(m),
-        b'T' => by_t(m),
-        b'W' => by_w(m),
-        _ => by_x(m),
+        b'H' => turn::record_without_h(m),
+        b'S' => by_diagonal(Element::ONE, Element::OMEGA2, m),
+        b'T' => by_diagonal(Element::ONE, Element::OMEGA, m),
+        b'W' => by_diagonal(Element::OMEGA, Element::OMEGA, m),
+        _ => turn::record_without_x(m),
     }
 }
 

@@ -4,4 +4,5 @@ pub mod Every
 pub mod Grammar
 pub mod Prefix
 pub mod Follow
+pub mod Letters
 pub mod Worked

@@ -3,7 +3,7 @@ use Prim.Native.Nat.{ℕ, _<_}
 use mathlib.Core.Bool.{Bool, true, false}
 use mathlib.Core.List.{List, [], _∷_, _++_}
 use mathlib.Core.Path.{_≡_}
-use Rattle.matrix.specs.Letter.{H, S, T, matrix-of}
+use Rattle.matrix.specs.Letter.{H, S, T, W, X, matrix-of}
 use Rattle.matrix.specs.Matrix.{Same}
 use Rattle.form.specs.Tail.{tails, tail-text}
 
@@ -39,6 +39,14 @@ pub record Form (text : List ℕ) : Type 0 where
   pub parts : Parts
   pub in-tails : parts .tail < tails
   pub spelled : text ≡ form-text parts
+
+-- the letters that forms are spelled with
+pub data Form-letter : ℕ → Type 0 where
+  letter-H : Form-letter H
+  letter-S : Form-letter S
+  letter-T : Form-letter T
+  letter-W : Form-letter W
+  letter-X : Form-letter X
 
 -- the text f is the form of the letter list w: a form by the grammar, with the same matrix, phase included
 pub record Form-of (w f : List ℕ) : Type 0 where

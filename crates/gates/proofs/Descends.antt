@@ -12,8 +12,9 @@ use Rattle.complete.proofs.Syllable.{norm-of-guided, past-S-guided, past-H-guid
 use Rattle.complete.proofs.Axis.{off-y-guided, off-x-guided}
 use Rattle.complete.proofs.Complete.{guided-of-unitary}
 use Rattle.turn.specs.Room.{Roomy-rest}
+use Rattle.turn.proofs.Room.{roomy-record}
 use Rattle.gates.specs.Descends.{Descends}
-use Rattle.gates.proofs.Sizes.{roomy-record, roomy-vector}
+use Rattle.gates.proofs.Sizes.{roomy-vector}
 
 roomy-rest : {r : Rest} {n : ℕ} → Guided r n → r .matrix .exponent ≤ 122 → n ≤ 122 → Roomy-rest r
 roomy-rest g k n = record { matrix = roomy-record (g .unitary) k; vector = roomy-vector (norm-of-guided g) n }

@@ -7,7 +7,7 @@ use Prim.Native.Nat.{ℕ, zero, suc, _+_, _-_, _*_, _^_, _≤_, _<_}
 use native.Mathlib.Nat.{le-trans, mul-le-mul}
 use native.Mathlib.Omega.{arith}
 use borrow.Author.Tests.{ltb-true}
-use lib.Dec.{ltb, lit<}
+use lib.Dec.{leb, ltb, lit≤, lit<, T as Holds}
 use lib.IntN.{ℤ, pos, negsuc, _+ℤ_, _-ℤ_, _*ℤ_, negℤ, natAbs, subℕ, +ℤ-idl}
 use lib.Signed.{mag}
 use mir.Syntax.{w64}
@@ -16,7 +16,7 @@ use mir.Facts.{toZ-ofZ}
 use Rattle.whole.proofs.Cancellation.{size-times}
 use Rattle.ring.specs.declared.Element.{Element}
 use Rattle.ring.specs.Element.{element, sum, negation, multiple, turned, product, conjugate}
-use Rattle.ring.specs.Bounds.{Bounded, Small, Room}
+use Rattle.ring.specs.Bounds.{Bounded, Small, Room, Factors}
 
 -- ---- the size of sums, differences and products
 size-difference : (a b : ℕ) → natAbs (subℕ a b) ≤ a + b
@@ -209,6 +209,10 @@ small-negation h = record {
   a3 = bounded-negation (h .a3);
 }
 
+-- what was negated leaves the room that it had
+pub small-negated : {b : ℕ} {x r : Element} → r ≡ negation x → Small b x → Small b r
+small-negated {b} e h = subst (Small b) (sym e) (small-negation h)
+
 pub small-turned : {b : ℕ} {x : Element} → Small b x → Small b (turned x)
 unfolding turned
 small-turned h = record { a0 = bounded-negation (h .a3); a1 = h .a0; a2 = h .a1; a3 = h .a2 }
@@ -238,3 +242,36 @@ small-product {b} {c} h k =
     (small-sum
     (small-sum (small-multiple (h .a0) k) (small-multiple (h .a1) (small-turned k)))
     (small-sum (small-multiple (h .a2) (small-turned (small-turned k))) (small-multiple (h .a3) (small-turned (small-turned (small-turned k))))))
+
+-- ---- the fixed elements, whose coefficients are −1, 0 or 1, and what they multiply
+pub fixed : {x : Element} →
+    Holds (leb (natAbs (x .a0)) 1) × Holds (leb (natAbs (x .a1)) 1) × Holds (leb (natAbs (x .a2)) 1) × Holds (leb (natAbs (x .a3)) 1) → Small 1 x
+fixed h = record {
+  a0 = record { size = lit≤ (h .0) };
+  a1 = record { size = lit≤ (h .1) };
+  a2 = record { size = lit≤ (h .2) };
+  a3 = record { size = lit≤ (h .3) };
+}
+
+pub fixed-factor : {x y : Element} → Small 1 x → Small (2 ^ 60) y → Factors x y
+fixed-factor h k = record {
+  left = 1;
+  right = 2 ^ 60;
+  small-left = h;
+  small-right = k;
+  room = record { left-room = lit≤ tt; right-room = lit≤ tt; room = lit≤ tt };
+}
+
+-- ---- elements within the coefficient limit, 2^20: one times the conjugate of another
+pub conjugate-factor : {x y r : Element} → Small (2 ^ 20) x → Small (2 ^ 20) y → r ≡ conjugate y → Factors x r
+conjugate-factor h k e = record {
+  left = 2 ^ 20;
+  right = 2 ^ 20;
+  small-left = h;
+  small-right = subst (Small (2 ^ 20)) (sym e) (small-conjugate k);
+  room = record { left-room = lit≤ tt; right-room = lit≤ tt; room = lit≤ tt };
+}
+
+pub small-across : {x y c r : Element} → Small (2 ^ 20) x → Small (2 ^ 20) y → c ≡ conjugate y → r ≡ product x c → Small (2 ^ 60) r
+small-across {x} h k e f =
+    subst (Small (2 ^ 60)) (sym (f ∙ ap (product x) e)) (small-more (lit≤ tt) (small-product h (small-conjugate k)))

@@ -16,6 +16,14 @@ pub struct Element {
 }
 
 impl Element {
+    // Nothing, and the fixed elements one, ω, ω² and √2.
+    pub const NOTHING: Element = Element {
+        a0: 0,
+        a1: 0,
+        a2: 0,
+        a3: 0,
+    };
+
     pub const ONE: Element = Element {
         a0: 1,
         a1: 0,
@@ -71,7 +79,7 @@ impl Element {
     }
 
     // ω times the element: a3 comes back at a0 with its sign changed.
-    pub fn turned(self) -> Element
+    fn turned(self) -> Element
         requires { ⌜ Small (2 ^ 61) self ⌝ }
         ensures { λ r. ⌜ r ≡ turned self ⌝ }
     {

@@ -6,8 +6,9 @@ use lib.IntN.{_+ℤ_, _-ℤ_}
 use Rattle.ring.specs.declared.Element.{Element}
 use Rattle.ring.specs.Element.{product}
 use Rattle.ring.specs.Bounds.{Small}
+use Rattle.ring.proofs.Bounds.{conjugate-factor, small-across}
 use Rattle.complete.specs.Vector.{number, vector, vector-of}
-use Rattle.descend.proofs.Products.{factors, small-across, roomy}
+use Rattle.descend.proofs.Products.{roomy}
 use Rattle.descend.proofs.vector_of.Statement.{statement}
 use Rattle.descend.proofs.vector_of.Tie as tie
 
@@ -20,7 +21,7 @@ conjugated-requires : tie.Need-conjugated-requires
 conjugated-requires c κs = search needs
 
 times-requires : tie.Need-times-requires
-times-requires c κs = let start = c .before .before .before in factors (start .pre .1) (start .pre .0) (c .conjugated .ensures)
+times-requires c κs = let start = c .before .before .before in conjugate-factor (start .pre .1) (start .pre .0) (c .conjugated .ensures)
 
 x-of-requires : tie.Need-x-of-requires
 x-of-requires c κs = roomy (across c)

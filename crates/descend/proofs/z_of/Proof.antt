@@ -3,8 +3,8 @@
 use borrow.Author.Needs.{needs}
 use Prim.Native.Nat.{_^_}
 use Rattle.ring.specs.Bounds.{Small}
-use Rattle.turn.proofs.Room.{small-negated}
-use Rattle.descend.proofs.Products.{factors, small-across, roomy, sizes}
+use Rattle.ring.proofs.Bounds.{small-negated, conjugate-factor, small-across}
+use Rattle.descend.proofs.Products.{roomy, sizes}
 use Rattle.descend.proofs.z_of.Statement.{statement}
 use Rattle.descend.proofs.z_of.Tie as tie
 
@@ -20,13 +20,13 @@ conjugated-requires : tie.Need-conjugated-requires
 conjugated-requires c κs = search needs
 
 times-requires : tie.Need-times-requires
-times-requires c κs = factors (c .before .pre .0) (c .before .pre .0) (c .conjugated .ensures)
+times-requires c κs = conjugate-factor (c .before .pre .0) (c .before .pre .0) (c .conjugated .ensures)
 
 conjugated-requires-2 : tie.Need-conjugated-requires-2
 conjugated-requires-2 c κs = search needs
 
 times-requires-2 : tie.Need-times-requires-2
-times-requires-2 c κs = let start = c .before .before .before in factors (start .pre .1) (start .pre .1) (c .conjugated2 .ensures)
+times-requires-2 c κs = let start = c .before .before .before in conjugate-factor (start .pre .1) (start .pre .1) (c .conjugated2 .ensures)
 
 negated-requires : tie.Need-negated-requires
 negated-requires c κs = roomy (down c)

@@ -7,8 +7,8 @@ use borrow.Author.Needs.{needs}
 use lib.ListN.{length, getD}
 use Rattle.matrix.specs.Matrix.{times}
 use Rattle.matrix.specs.Letter.{gate, matrix-of}
+use Rattle.form.proofs.Letters.{form-letter-at}
 use Rattle.expand.specs.Room.{Roomy}
-use Rattle.expand.proofs.Letters.{form-letter-at}
 use Rattle.expand.proofs.Ending.{ending, ending-roomy, ending-none, ending-all, ending-more}
 use Rattle.expand.proofs.product_of.Statement.{statement}
 use Rattle.expand.proofs.product_of.Tie as tie

@@ -6,13 +6,13 @@ use mathlib.Core.List.{_++_}
 use Prim.Native.Nat.{ℕ, suc, _+_, _-_, _*_, _≤_, _<_}
 use native.Mathlib.Omega.{arith}
 use lib.ListN.{length, take}
+use Rattle.matrix.proofs.Small.{unitary-is-small}
 use Rattle.complete.specs.declared.Rest.{Rest}
 use Rattle.complete.specs.declared.Vector.{Vector}
 use Rattle.complete.specs.Vector.{vector-of}
 use Rattle.complete.specs.Descent.{rest as a-rest, past-syllable, word-below}
 use Rattle.put.proofs.Place.{placed-length}
 use Rattle.gates.specs.Descends.{Descends, Above-zero}
-use Rattle.gates.proofs.Sizes.{small-column}
 use Rattle.gates.proofs.Descends.{descends-start, descends-syllable}
 use Rattle.gates.proofs.Taken.{length-syllable}
 use Rattle.gates.proofs.Spelt.{step-down, all-written, spelt}
@@ -42,7 +42,10 @@ one-less {r' = r'} (suc n) h d e =
     subst (Descends r') (sym less) (subst (λ (s : Rest). Descends s n) (sym e) (descends-syllable d))
 
 vector-of-requires : tie.Need-vector-of-requires Inv-loop μ-loop
-vector-of-requires c κs = small-column (c .before .pre .1 .unitary) (c .before .pre .1 .inside .exponent)
+vector-of-requires c κs =
+    let accepted = c .before .pre .1 in
+    let small = unitary-is-small 20 (accepted .unitary) (accepted .inside .exponent) in
+    (small .top-left, small .bottom-left)
 
 add-left : tie.Need-add-left Inv-loop μ-loop
 add-left c = record { fits = omega (arith, c .before .before .before .pre .1 .inside .exponent) }

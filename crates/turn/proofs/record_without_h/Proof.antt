@@ -1,9 +1,10 @@
 -- `turn::record_without_h` meets its contract: sums and changes of sign have room. Assumes nothing.
 use mathlib.Core.Path.{refl}
 use borrow.Author.Needs.{needs}
+use Rattle.ring.proofs.Bounds.{small-negated}
 use Rattle.matrix.proofs.Entries.{equal-entries}
 use Rattle.complete.specs.Descent.{record-without-H}
-use Rattle.turn.proofs.Room.{small-negated, sum-of-negation}
+use Rattle.turn.proofs.Room.{sum-of-negation}
 use Rattle.turn.proofs.record_without_h.Statement.{statement}
 use Rattle.turn.proofs.record_without_h.Tie as tie
 

@@ -3,9 +3,8 @@ use Prim.Native.Nat.{ℕ, _<_}
 use mathlib.Core.List.{List}
 use lib.ListN.{length, getD}
 use Rattle.whole.proofs.List.{every-member}
-use Rattle.form.specs.Form.{Form}
+use Rattle.form.specs.Form.{Form, Form-letter, letter-H, letter-S, letter-T, letter-W, letter-X}
 use Rattle.form.proofs.Spelled.{Of-five, spelled-form}
-use Rattle.expand.specs.Room.{Form-letter, letter-H, letter-S, letter-T, letter-W, letter-X}
 
 five-form-letters : Of-five Form-letter
 five-form-letters = record { of-H = letter-H; of-S = letter-S; of-T = letter-T; of-W = letter-W; of-X = letter-X }
