@@ -1,4 +1,5 @@
 pub mod Record
 pub mod Limits
 pub mod Sizes
+pub mod Within
 pub mod Judged

@@ -1,33 +1,25 @@
--- How large the parts of squared sizes are, and the entries of a record inside the limits. Assumes nothing.
+-- The entries of a record inside the limits are small, and so are the products of its columns. Assumes nothing.
 use Prim.Native.Nat.{_^_}
 use mathlib.Core.List.{List, _∷_}
 use lib.Dec.{lit≤}
 use lib.IntN.{ℤ}
 use Rattle.whole.proofs.List.{every-first, every-rest}
 use Rattle.ring.specs.declared.Element.{Element}
-use Rattle.ring.specs.Element.{size-whole, size-root2}
-use Rattle.ring.specs.Bounds.{Bounded, Small, Factors}
-use Rattle.ring.proofs.Bounds.{bounded-sum, bounded-negation, bounded-product, bounded-more}
+use Rattle.ring.specs.Bounds.{Bounded, Small}
+use Rattle.ring.proofs.Bounds.{small-more, small-sum, small-conjugate, small-product}
 use Rattle.matrix.specs.declared.Matrix.{Matrix}
 use Rattle.answer.specs.Limits.{coefficient-limit}
 use Rattle.accept.specs.Accept.{In-limits, coefficients, Inside}
+use Rattle.accept.specs.Column.{column-product}
 use Rattle.accept.proofs.Limits.{bounded-in-limit}
 
-pub size-whole-bounded : {x : Element} → Small coefficient-limit x → Bounded (2 ^ 42) (size-whole x)
-unfolding size-whole
-size-whole-bounded s =
-    bounded-more (lit≤ tt)
-    (bounded-sum
-    (bounded-sum (bounded-sum (bounded-product (s .a0) (s .a0)) (bounded-product (s .a1) (s .a1))) (bounded-product (s .a2) (s .a2)))
-    (bounded-product (s .a3) (s .a3)))
-
-pub size-root2-bounded : {x : Element} → Small coefficient-limit x → Bounded (2 ^ 42) (size-root2 x)
-unfolding size-root2
-size-root2-bounded s =
-    bounded-more (lit≤ tt)
-    (bounded-sum
-    (bounded-sum (bounded-sum (bounded-product (s .a0) (s .a1)) (bounded-product (s .a1) (s .a2))) (bounded-product (s .a2) (s .a3)))
-    (bounded-negation (bounded-product (s .a3) (s .a0))))
+-- the products of columns
+pub small-column-product : {x y u v : Element} →
+    Small coefficient-limit x → Small coefficient-limit y → Small coefficient-limit u → Small coefficient-limit v →
+    Small (2 ^ 61) (column-product x y u v)
+unfolding column-product
+small-column-product hx hy hu hv =
+    small-more (lit≤ tt) (small-sum (small-product hx (small-conjugate hu)) (small-product hy (small-conjugate hv)))
 
 -- the entries of a record inside the limits
 pub record Small-entries (m : Matrix) : Type 0 where
@@ -62,13 +54,3 @@ small-entries m i =
       bottom-left = first-small third;
       bottom-right = first-small (rest-small third);
     }
-
--- two entries may be multiplied
-pub entries-multiply : {x y : Element} → Small coefficient-limit x → Small coefficient-limit y → Factors x y
-entries-multiply h k = record {
-  left = coefficient-limit;
-  right = coefficient-limit;
-  small-left = h;
-  small-right = k;
-  room = record { left-room = lit≤ tt; right-room = lit≤ tt; room = lit≤ tt };
-}

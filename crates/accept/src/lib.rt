@@ -10,7 +10,7 @@ ghost use mathlib.Core.Bool.{true};
 ghost use mathlib.Core.Logic.{_↔_};
 ghost use mathlib.Core.Path.{_≡_};
 ghost use lib.IntN.{pos};
-ghost use Rattle.ring.specs.Element.{nothing, size-whole, size-root2};
+ghost use Rattle.ring.specs.Element.{nothing};
 ghost use Rattle.ring.specs.Bounds.{Small};
 ghost use Rattle.matrix.specs.Matrix.{Unitary};
 ghost use Rattle.answer.specs.Limits.{exponent-limit, coefficient-limit};
@@ -108,21 +108,6 @@ fn first_wide(list: &[i64]) -> usize
     i
 }
 
-// The whole part and the √2 part of the squared size of an element.
-fn size_whole(x: Element) -> i64
-    requires { ⌜ Small coefficient-limit x ⌝ }
-    ensures { λ r. ⌜ r ≡ size-whole x ⌝ }
-{
-    x.a0 * x.a0 + x.a1 * x.a1 + x.a2 * x.a2 + x.a3 * x.a3
-}
-
-fn size_root2(x: Element) -> i64
-    requires { ⌜ Small coefficient-limit x ⌝ }
-    ensures { λ r. ⌜ r ≡ size-root2 x ⌝ }
-{
-    x.a0 * x.a1 + x.a1 * x.a2 + x.a2 * x.a3 - x.a3 * x.a0
-}
-
 // 2^k
 fn power(k: u32) -> i64
     requires { ⌜ k ≤ exponent-limit ⌝ }
@@ -132,26 +117,30 @@ fn power(k: u32) -> i64
     p as i64
 }
 
-// Whether a column's squared sizes sum to 2^k with no √2 part.
+// The column (x, y) times the conjugate of the column (u, v).
+fn column_product(x: Element, y: Element, u: Element, v: Element) -> Element
+    requires { ⌜ Small coefficient-limit x ⌝ }
+    requires { ⌜ Small coefficient-limit y ⌝ }
+    requires { ⌜ Small coefficient-limit u ⌝ }
+    requires { ⌜ Small coefficient-limit v ⌝ }
+    ensures { λ r. ⌜ r ≡ column-product x y u v ⌝ }
+{
+    let above = x.times(u.conjugated());
+    let below = y.times(v.conjugated());
+    above.plus(below)
+}
+
+// Whether a column's squared sizes sum to 2^k with no √2 part: they are the column times its own conjugate.
 fn is_unit(top: Element, bottom: Element, power: i64) -> bool
     requires { ⌜ Small coefficient-limit top ⌝ }
     requires { ⌜ Small coefficient-limit bottom ⌝ }
     ensures { λ r. ⌜ (r ≡ true ↔ Unit-column top bottom power) ⌝ }
 {
-    if size_whole(top) + size_whole(bottom) != power {
+    let size = column_product(top, bottom, top, bottom);
+    if size.a0 != power {
         return false;
     }
-    size_root2(top) + size_root2(bottom) == 0
-}
-
-// The left column times the conjugate of the right.
-fn column_product(m: Matrix) -> Element
-    requires { ⌜ Inside m ⌝ }
-    ensures { λ r. ⌜ r ≡ column-product m ⌝ }
-{
-    let top = m.top.left.times(m.top.right.conjugated());
-    let bottom = m.bottom.left.times(m.bottom.right.conjugated());
-    top.plus(bottom)
+    size.a1 == 0
 }
 
 fn is_nothing(x: Element) -> bool
@@ -181,7 +170,7 @@ fn is_unitary(m: Matrix) -> bool
     if !is_unit(m.top.right, m.bottom.right, two_to_k) {
         return false;
     }
-    is_nothing(column_product(m))
+    is_nothing(column_product(m.top.left, m.bottom.left, m.top.right, m.bottom.right))
 }
 
 // The limits in their order, and then the test for unitary.

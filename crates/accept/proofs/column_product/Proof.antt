@@ -1,45 +1,29 @@
--- `accept::column_product` meets its contract: the products have coefficients up to 2^42. Assumes nothing.
-use mathlib.Core.Path.{_≡_, sym, subst}
-use Prim.Native.Nat.{_^_}
+-- `accept::column_product` meets its contract: the products have room. Assumes nothing.
 use lib.Dec.{lit≤}
-use Rattle.ring.specs.declared.Element.{Element}
-use Rattle.ring.specs.Element.{conjugate, product}
-use Rattle.ring.specs.Bounds.{Small}
-use Rattle.ring.proofs.Bounds.{small-more, small-conjugate, small-product}
-use Rattle.answer.specs.Limits.{coefficient-limit}
+use Rattle.ring.proofs.Bounds.{small-more, conjugate-factor, small-across}
 use Rattle.accept.specs.Column.{column-product}
-use Rattle.accept.proofs.Sizes.{small-entries, entries-multiply}
 use Rattle.accept.proofs.column_product.Statement.{statement}
 use Rattle.accept.proofs.column_product.Tie as tie
 
-conjugate-is-small : {y r : Element} → Small coefficient-limit y → r ≡ conjugate y → Small coefficient-limit r
-conjugate-is-small k e = subst (Small coefficient-limit) (sym e) (small-conjugate k)
-
-product-is-small : {x y r : Element} → Small coefficient-limit x → Small coefficient-limit y → r ≡ product x y → Small (2 ^ 61) r
-product-is-small h k e = subst (Small (2 ^ 61)) (sym e) (small-more (lit≤ tt) (small-product h k))
-
 conjugated-requires : tie.Need-conjugated-requires
-conjugated-requires c κs = small-more (lit≤ tt) (small-entries (c .args .m) (c .pre) .top-right)
+conjugated-requires c κs = small-more (lit≤ tt) (c .pre .1 .1 .0)
 
 times-requires : tie.Need-times-requires
-times-requires c κs =
-    let e = small-entries (c .before .args .m) (c .before .pre) in
-    entries-multiply (e .top-left) (conjugate-is-small (e .top-right) (c .conjugated .ensures))
+times-requires c κs = conjugate-factor (c .before .pre .0) (c .before .pre .1 .1 .0) (c .conjugated .ensures)
 
 conjugated-requires-2 : tie.Need-conjugated-requires-2
-conjugated-requires-2 c κs =
-    small-more (lit≤ tt) (small-entries (c .before .before .args .m) (c .before .before .pre) .bottom-right)
+conjugated-requires-2 c κs = small-more (lit≤ tt) (c .before .before .pre .1 .1 .1)
 
 times-requires-2 : tie.Need-times-requires-2
 times-requires-2 c κs =
-    let e = small-entries (c .before .before .before .args .m) (c .before .before .before .pre) in
-    entries-multiply (e .bottom-left) (conjugate-is-small (e .bottom-right) (c .conjugated2 .ensures))
+    let pre = c .before .before .before .pre in
+    conjugate-factor (pre .1 .0) (pre .1 .1 .1) (c .conjugated2 .ensures)
 
 plus-requires : tie.Need-plus-requires
 plus-requires c κs =
-    let e = small-entries (c .before .before .before .before .args .m) (c .before .before .before .before .pre) in (
-      product-is-small (e .top-left) (conjugate-is-small (e .top-right) (c .before .before .before .conjugated .ensures)) (c .before .before .times .ensures),
-      product-is-small (e .bottom-left) (conjugate-is-small (e .bottom-right) (c .before .conjugated2 .ensures)) (c .times2 .ensures),
+    let pre = c .before .before .before .before .pre in (
+      small-more (lit≤ tt) (small-across (pre .0) (pre .1 .1 .0) (c .before .before .before .conjugated .ensures) (c .before .before .times .ensures)),
+      small-more (lit≤ tt) (small-across (pre .1 .0) (pre .1 .1 .1) (c .before .conjugated2 .ensures) (c .times2 .ensures)),
     )
 
 returns : tie.Need-returns

@@ -73,7 +73,10 @@ returns-2 c = (
 )
 
 column-product-requires : tie.Need-column-product-requires
-column-product-requires c κs = search needs
+column-product-requires c κs =
+    let s = c .before .before .before .before .before in
+    let e = small-entries (s .args .m) (s .pre) in
+    (e .top-left, (e .bottom-left, (e .top-right, e .bottom-right)))
 
 is-nothing-requires : tie.Need-is-nothing-requires
 is-nothing-requires c κs = search needs
