@@ -31,35 +31,28 @@ unfolding if-taken
 length-taken true b = omega arith
 length-taken false b = omega arith
 
+-- three letters, each taken or not
+length-three : (s t u : Bool) (a b c : ℕ) → length (if-taken s a ++ (if-taken t b ++ if-taken u c)) ≤ 3
+length-three s t u a b c =
+    omega (
+      arith,
+      length-append (if-taken s a) (if-taken t b ++ if-taken u c),
+      length-append (if-taken t b) (if-taken u c),
+      length-taken s a,
+      length-taken t b,
+      length-taken u c,
+    )
+
 -- "HT or SHT", and an axis, take at most three letters
 pub length-syllable : (r : Rest) → length (syllable-taken r) ≤ 3
 unfolding syllable-taken
 length-syllable r =
     let s = past-S r in
     let h = past-H s in
-    let second = if-taken (odd-y s && odd-z s) H in
-    let third = if-taken (odd-x h && odd-y h) T in
-    omega (
-      arith,
-      length-append (if-taken (odd-x r && odd-z r) S) (second ++ third),
-      length-append second third,
-      length-taken (odd-x r && odd-z r) S,
-      length-taken (odd-y s && odd-z s) H,
-      length-taken (odd-x h && odd-y h) T,
-    )
+    length-three (odd-x r && odd-z r) (odd-y s && odd-z s) (odd-x h && odd-y h) S H T
 
 pub length-axis : (r : Rest) → length (axis-taken r) ≤ 3
 unfolding axis-taken
 length-axis r =
     let s = off-y r in
-    let h = off-x s in
-    let second = if-taken (odd-x s) H in
-    let third = if-taken (downward h) X in
-    omega (
-      arith,
-      length-append (if-taken (odd-y r) S) (second ++ third),
-      length-append second third,
-      length-taken (odd-y r) S,
-      length-taken (odd-x s) H,
-      length-taken (downward h) X,
-    )
+    length-three (odd-y r) (odd-x s) (downward (off-x s)) S H X

@@ -1,6 +1,6 @@
 -- Texts written one after the other: a text and then another at the place after it are both in a row, the buffer keeps
 -- its length, and a text written at the start is the answer put there. Assumes nothing.
-use Prim.Native.Nat.{ℕ, suc, _+_, _-_, _≤_, _<_}
+use Prim.Native.Nat.{ℕ, _+_, _-_, _≤_, _<_}
 use native.Mathlib.Nat.{zero-add, add-zero, add-assoc}
 use native.Mathlib.Numerals.{add-one}
 use native.Mathlib.Omega.{arith}
@@ -45,6 +45,11 @@ put-at-length place f before h =
 
 pub placed-length : {place next : ℕ} {f before after : List ℕ} → Placed place f before next after → length after ≡ length before
 placed-length {place} {next} {f} {before} p = ap length (p .written) ∙ put-at-length place f before (p .fits)
+
+-- the room that a text of at most so many bytes leaves
+pub placed-room : {place next : ℕ} {f before after : List ℕ} (size rest : ℕ) → length f ≤ size → place + (size + rest) ≤ length before →
+    Placed place f before next after → next + rest ≤ length after
+placed-room size rest short room p = omega (arith, p .next-place, placed-length p)
 
 -- a text written after another
 put-at-more : (place : ℕ) (f g before : List ℕ) → place + length f ≤ length before →

@@ -1,9 +1,11 @@
 -- `gates::put_axis` meets its contract: each letter stands after the one before it, and what is left has room.
 -- Assumes nothing.
 use mathlib.Core.Path.{_≡_, ap, sym, _∙_, subst}
+use Prim.Native.Nat.{_+_, _≤_}
 use borrow.Author.Needs.{needs}
 use native.Mathlib.Omega.{arith}
 use denote.Ref.{now}
+use lib.ListN.{length}
 use lib.IntN.{ℤ, pos}
 use lib.Signed.{ltZ}
 use Rattle.whole.proofs.Parity.{odd}
@@ -13,7 +15,7 @@ use Rattle.complete.specs.declared.Rest.{Rest}
 use Rattle.complete.specs.Descent.{if-taken, odd-x, odd-y, off-y, off-x, downward, turned-up, axis-taken, upright}
 use Rattle.turn.specs.Room.{Roomy-rest}
 use Rattle.put.specs.Place.{Placed}
-use Rattle.put.proofs.Place.{placed-more, placed-length}
+use Rattle.put.proofs.Place.{placed-more, placed-length, placed-room}
 use Rattle.gates.proofs.Descends.{roomy, roomy-off-y, roomy-off-x}
 use Rattle.gates.proofs.Taken.{once, placed-taken, length-taken}
 use Rattle.gates.proofs.put_axis.Statement.{statement}
@@ -82,6 +84,10 @@ all-three : (c : tie.After-put-run3) →
 unfolding axis-taken left-S
 all-three c = placed-more (first (after-first (after-second c))) (placed-more (second (after-second c)) (third c))
 
+-- the room that the first letter leaves
+room-first : (c : tie.After-put-run) → c .put-run .result + 2 ≤ length (c .put-run .last .0)
+room-first c = placed-room 1 2 (length-taken _ S) (start c .pre .0) (first c)
+
 -- ---- the needs
 odd-requires : tie.Need-odd-requires
 odd-requires c κs = search needs
@@ -102,17 +108,7 @@ cast-with-h : tie.Need-cast-with-h
 cast-with-h c = search needs
 
 put-run-requires-2 : tie.Need-put-run-requires-2
-put-run-requires-2 c κs =
-    let before = c .before .before .before .before .before .before in
-    let p = first before in
-    omega (
-      arith,
-      once (c .before .odd2 .result),
-      start before .pre .0,
-      p .next-place,
-      length-taken (odd-y (start before .args .rest)) S,
-      placed-length p,
-    )
+put-run-requires-2 c κs = omega (arith, once (c .before .odd2 .result), room-first (c .before .before .before .before .before .before))
 
 off-x-requires : tie.Need-off-x-requires
 off-x-requires c κs = roomy-left-S (c .before .before .before .before .before .before)
@@ -123,20 +119,7 @@ cast-with-x c = search needs
 put-run-requires-3 : tie.Need-put-run-requires-3
 put-run-requires-3 c κs =
     let middle = c .before .before .before .before .before .before in
-    let before = after-first middle in
-    let p = first before in
-    let q = second middle in
-    omega (
-      arith,
-      once (ltZ (stored (c .before .before .before .off-x .result .vector .z .whole)) (pos 0)),
-      start before .pre .0,
-      p .next-place,
-      length-taken (odd-y (start before .args .rest)) S,
-      placed-length p,
-      q .next-place,
-      length-taken (odd-x (left-S (to-S middle))) H,
-      placed-length q,
-    )
+    omega (arith, once (ltZ (stored (c .before .before .before .off-x .result .vector .z .whole)) (pos 0)), placed-room 1 1 (length-taken _ H) (room-first (after-first middle)) (second middle))
 
 turned-up-requires : tie.Need-turned-up-requires
 turned-up-requires c κs = roomy-left-H (c .before .before .before .before .before .before)

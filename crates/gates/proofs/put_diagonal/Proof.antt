@@ -1,15 +1,15 @@
 -- `gates::put_diagonal` meets its contract: the runs stand one after the other, and are at most eleven letters.
 -- Assumes nothing.
 use mathlib.Core.Path.{subst₂}
-use Prim.Native.Nat.{ℕ, _+_, _-_, _/_, _%_, _<_}
+use Prim.Native.Nat.{ℕ, _+_, _-_, _/_, _%_, _<_, _≤_}
 use borrow.Author.Needs.{needs}
 use native.Mathlib.Omega.{arith}
-use lib.ListN.{length-replicate}
+use lib.ListN.{length, length-replicate}
 use denote.Ref.{now}
 use Rattle.matrix.specs.Letter.{S, T}
 use Rattle.complete.specs.Descent.{phase, phases-text, diagonal-text}
 use Rattle.put.specs.Place.{Placed}
-use Rattle.put.proofs.Place.{placed-more, placed-length}
+use Rattle.put.proofs.Place.{placed-more, placed-room}
 use Rattle.gates.proofs.Phases.{phase-below}
 use Rattle.gates.proofs.put_diagonal.Statement.{statement}
 use Rattle.gates.proofs.put_diagonal.Tie as tie
@@ -46,35 +46,20 @@ turn c = (c .phase2 .result + 8 - c .before .phase .result) % 8
 put-run-requires : tie.Need-put-run-requires
 put-run-requires c κs = omega (arith, c .before .before .before .before .pre)
 
+-- the room that the T leaves
+room-T : (c : tie.After-put-run) → c .put-run .result + 10 ≤ length (c .put-run .last .0)
+room-T c =
+    placed-room 1 10 (omega (arith, length-replicate (turn (c .before .before) % 2) T)) (c .before .before .before .before .before .pre) (c .put-run .ensures)
+
 put-run-requires-2 : tie.Need-put-run-requires-2
-put-run-requires-2 c κs =
-    let one = c .before .before .before in
-    let p = one .put-run .ensures in
-    omega (
-      arith,
-      one .before .before .before .before .before .pre,
-      p .next-place,
-      length-replicate (turn (one .before .before) % 2) T,
-      placed-length p,
-    )
+put-run-requires-2 c κs = omega (arith, room-T (c .before .before .before))
 
 put-run-requires-3 : tie.Need-put-run-requires-3
 put-run-requires-3 c κs =
     let two = c .before .before .before in
     let one = two .before .before .before .before in
-    let p = one .put-run .ensures in
-    let q = two .put-run2 .ensures in
-    omega (
-      arith,
-      one .before .before .before .before .before .pre,
-      first-below (one .before .before .before),
-      p .next-place,
-      length-replicate (turn (one .before .before) % 2) T,
-      placed-length p,
-      q .next-place,
-      length-replicate (turn (one .before .before) / 2) S,
-      placed-length q,
-    )
+    let short = length-replicate (turn (one .before .before) / 2) S in
+    omega (arith, first-below (one .before .before .before), placed-room 3 7 (omega arith) (room-T one) (two .put-run2 .ensures))
 
 same-length : tie.Need-same-length
 same-length c = search needs

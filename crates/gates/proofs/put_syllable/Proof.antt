@@ -2,15 +2,17 @@
 -- Assumes nothing.
 use mathlib.Core.Path.{_≡_, ap, sym, _∙_, subst}
 use mathlib.Core.Bool.{_&&_}
+use Prim.Native.Nat.{_+_, _≤_}
 use borrow.Author.Needs.{needs}
 use native.Mathlib.Omega.{arith}
 use denote.Ref.{now}
+use lib.ListN.{length}
 use Rattle.matrix.specs.Letter.{H, S, T}
 use Rattle.complete.specs.declared.Rest.{Rest}
 use Rattle.complete.specs.Descent.{if-taken, odd-x, odd-y, odd-z, past-S, past-H, past-T, syllable-taken, past-syllable}
 use Rattle.turn.specs.Room.{Roomy-rest}
 use Rattle.put.specs.Place.{Placed}
-use Rattle.put.proofs.Place.{placed-more, placed-length}
+use Rattle.put.proofs.Place.{placed-more, placed-length, placed-room}
 use Rattle.gates.proofs.Descends.{roomy, roomy-past-S, roomy-past-H}
 use Rattle.gates.proofs.Taken.{once, placed-taken, length-taken}
 use Rattle.gates.proofs.put_syllable.Statement.{statement}
@@ -64,6 +66,10 @@ all-three : (c : tie.After-put-run3) →
 unfolding syllable-taken left-S
 all-three c = placed-more (first (after-first (after-second c))) (placed-more (second (after-second c)) (third c))
 
+-- the room that the first letter leaves
+room-first : (c : tie.After-put-run) → c .put-run .result + 2 ≤ length (c .put-run .last .0)
+room-first c = placed-room 1 2 (length-taken _ S) (start c .pre .0) (first c)
+
 -- ---- the needs
 odd-pair-requires : tie.Need-odd-pair-requires
 odd-pair-requires c κs = search needs
@@ -84,17 +90,7 @@ cast-with-h : tie.Need-cast-with-h
 cast-with-h c = search needs
 
 put-run-requires-2 : tie.Need-put-run-requires-2
-put-run-requires-2 c κs =
-    let before = c .before .before .before .before .before .before in
-    let p = first before in
-    omega (
-      arith,
-      once (c .before .odd-pair2 .result),
-      start before .pre .0,
-      p .next-place,
-      length-taken (odd-x (start before .args .rest) && odd-z (start before .args .rest)) S,
-      placed-length p,
-    )
+put-run-requires-2 c κs = omega (arith, once (c .before .odd-pair2 .result), room-first (c .before .before .before .before .before .before))
 
 past-h-requires : tie.Need-past-h-requires
 unfolding left-S
@@ -111,20 +107,7 @@ cast-with-t c = search needs
 put-run-requires-3 : tie.Need-put-run-requires-3
 put-run-requires-3 c κs =
     let middle = c .before .before .before .before .before .before in
-    let before = after-first middle in
-    let p = first before in
-    let q = second middle in
-    omega (
-      arith,
-      once (c .before .odd-pair3 .result),
-      start before .pre .0,
-      p .next-place,
-      length-taken (odd-x (start before .args .rest) && odd-z (start before .args .rest)) S,
-      placed-length p,
-      q .next-place,
-      length-taken (odd-y (left-S (after-S middle)) && odd-z (left-S (after-S middle))) H,
-      placed-length q,
-    )
+    omega (arith, once (c .before .odd-pair3 .result), placed-room 1 1 (length-taken _ H) (room-first (after-first middle)) (second middle))
 
 past-t-requires : tie.Need-past-t-requires
 unfolding left-S
