@@ -1,5 +1,4 @@
 pub mod Phase
-pub mod Spelled
 pub mod Related
 pub mod States
 pub mod Comparison

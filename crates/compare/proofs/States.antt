@@ -1,13 +1,8 @@
--- Two states as they are compared: codes in use agree where they agree at each place, and the forms that two states spell are
--- apart by ω^j exactly when their codes agree and the first tail is the second with j W's more. Assumes nothing.
-use Prim.Native.Nat.{ℕ, zero, suc, _+_, _≤_, _<_}
-use native.Mathlib.Nat.{eq-or-lt-of-le, le-of-suc-le-suc}
-use native.Mathlib.Numerals.{add-one}
-use native.Mathlib.Omega.{arith}
-use mathlib.Core.List.{List, _∷_, _++_, head-eq-of-cons-eq, tail-eq-of-cons-eq}
-use mathlib.Core.Logic.{⊎-elim}
+-- Two states as they are compared: the forms that they spell are apart by ω^j exactly when their codes agree and the first tail is the second with j W's more. Assumes nothing.
+use Prim.Native.Nat.{ℕ, _+_, _≤_}
+use mathlib.Core.List.{List, _++_}
 use mathlib.Core.Path.{_≡_, sym, ap, ap₂, subst, _∙_}
-use lib.ListN.{length, getD}
+use lib.ListN.{length}
 use Rattle.matrix.specs.Matrix.{Same}
 use Rattle.matrix.specs.Letter.{matrix-of}
 use Rattle.matrix.proofs.Same.{same-of-equal}
@@ -18,25 +13,12 @@ use Rattle.extend.specs.declared.State.{State}
 use Rattle.extend.specs.State.{codes-text, used, state-text, Spells}
 use Rattle.extend.proofs.Spelling.{codes-form}
 use Rattle.extend.proofs.Stack.{length-used}
+use Rattle.extend.proofs.Known.{codes-known}
 use Rattle.unique.proofs.Unique.{forms-are-unique}
 use Rattle.compare.specs.Compare.{same, phase, different, Phase-apart, Related, equal, apart, unlike}
 use Rattle.compare.proofs.Phase.{with-Ws, with-Ws-in-tails, phased-text}
-use Rattle.compare.proofs.Spelled.{codes-known}
 use Rattle.compare.proofs.Related.{equal-by-none}
 
--- ---- codes in use, place by place
-pub used-more : (stack stack′ : List ℕ) (i : ℕ) → used stack i ≡ used stack′ i → getD stack i 0 ≡ getD stack′ i 0 → used stack (i + 1) ≡ used stack′ (i + 1)
-unfolding used
-used-more stack stack′ i below here = rw add-one (ap₂ _∷_ here below)
-
-pub used-at : (stack stack′ : List ℕ) (count i : ℕ) → i < count → used stack count ≡ used stack′ count → getD stack i 0 ≡ getD stack′ i 0
-unfolding used
-used-at stack stack′ zero i i< e = absurd (omega arith)
-used-at stack stack′ (suc count) i i< e =
-    ⊎-elim (λ last. subst (λ (k : ℕ). getD stack k 0 ≡ getD stack′ k 0) (sym last) (head-eq-of-cons-eq e))
-    (λ below. used-at stack stack′ count i below (tail-eq-of-cons-eq e)) (eq-or-lt-of-le (le-of-suc-le-suc i<))
-
--- ---- states
 -- the codes agree, and the first tail is the second with j W's more
 pub record Agree (stack : List ℕ) (state : State) (stack′ : List ℕ) (state′ : State) (j : ℕ) : Type 0 where
   pub codes : used stack (state .count) ≡ used stack′ (state′ .count)

@@ -3,3 +3,4 @@ pub mod Spelling
 pub mod Step
 pub mod Exists
 pub mod Stack
+pub mod Known

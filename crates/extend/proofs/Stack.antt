@@ -2,9 +2,10 @@
 -- step does to the array and the state extends the form that they spell. Assumes nothing.
 use Prim.Native.Nat.{ℕ, zero, suc, _+_, _*_, _-_, _≤_, _<_}
 use native.Mathlib.Numerals.{add-one, sub-one}
-use native.Mathlib.Nat.{lt-irrefl}
+use native.Mathlib.Nat.{lt-irrefl, eq-or-lt-of-le, le-of-suc-le-suc}
 use native.Mathlib.Omega.{arith}
-use mathlib.Core.List.{List, [], _∷_}
+use mathlib.Core.List.{List, [], _∷_, head-eq-of-cons-eq, tail-eq-of-cons-eq}
+use mathlib.Core.Logic.{⊎-elim}
 use mathlib.Core.Path.{_≡_, refl, sym, ap, ap₂, subst, _∙_}
 use lib.Dec.{lit<}
 use lib.ListN.{length, take, getD, set, length-take, length-set}
@@ -43,6 +44,18 @@ used-last : (stack : List ℕ) (n : ℕ) → 0 < n → used stack n ≡ getD sta
 unfolding used
 used-last stack zero h = absurd (omega arith)
 used-last stack (suc n) h = sym (ap (λ (k : ℕ). getD stack k 0 ∷ used stack k) (sub-one (suc n)))
+
+-- codes in use agree where they agree at each place
+pub used-more : (stack stack′ : List ℕ) (i : ℕ) → used stack i ≡ used stack′ i → getD stack i 0 ≡ getD stack′ i 0 → used stack (i + 1) ≡ used stack′ (i + 1)
+unfolding used
+used-more stack stack′ i below here = rw add-one (ap₂ _∷_ here below)
+
+pub used-at : (stack stack′ : List ℕ) (count i : ℕ) → i < count → used stack count ≡ used stack′ count → getD stack i 0 ≡ getD stack′ i 0
+unfolding used
+used-at stack stack′ zero i i< e = absurd (omega arith)
+used-at stack stack′ (suc count) i i< e =
+    ⊎-elim (λ last. subst (λ (k : ℕ). getD stack k 0 ≡ getD stack′ k 0) (sym last) (head-eq-of-cons-eq e))
+    (λ below. used-at stack stack′ count i below (tail-eq-of-cons-eq e)) (eq-or-lt-of-le (le-of-suc-le-suc i<))
 
 -- a syllable stands above any codes, and a code is one of three
 pub syllable-above : {below : List ℕ} (h : ℕ) → 0 < h → h < 3 → Codes below → Codes (h ∷ below)

@@ -6,7 +6,7 @@ use borrow.Author.Needs.{needs}
 use mathlib.Core.Bool.{true≢false}
 use mathlib.Core.Path.{_≡_, refl, sym, subst}
 use Rattle.extend.specs.State.{used}
-use Rattle.compare.proofs.States.{used-more, used-at}
+use Rattle.extend.proofs.Stack.{used-more, used-at}
 use Rattle.compare.proofs.same_codes.Statement.{statement}
 use Rattle.compare.proofs.same_codes.Tie as tie
 
