@@ -25,10 +25,6 @@ pub enum Compared {
     Refused { which: Which, refusal: Refusal },
 }
 
-fn empty_stack() -> [u8; STRING_LIMIT] {
-    [0u8; STRING_LIMIT]
-}
-
 // A refusal with the string that it concerns. A form has none, and is not asked for one.
 fn refused(which: Which, spelled: Spelled) -> Compared
     ensures { λ r. ⌜ ((refusal : Refusal) → spelled ≡ Spelled.Refused refusal → r ≡ Compared.Refused which refusal) ⌝ }
@@ -89,12 +85,12 @@ pub fn compare(first: &[u8], second: &[u8]) -> Compared
     ensures { λ r. ⌜ Comparison (now (first .entry)) (now (second .entry)) (verdict r) ⌝ }
 {
     let products = tail::products();
-    let mut first_stack = empty_stack();
+    let mut first_stack = spell::empty_stack();
     let first_spelled = spell::spell(&products, &mut first_stack, first);
     let Spelled::Form(a) = first_spelled else {
         return refused(Which::First, first_spelled);
     };
-    let mut second_stack = empty_stack();
+    let mut second_stack = spell::empty_stack();
     let second_spelled = spell::spell(&products, &mut second_stack, second);
     let Spelled::Form(b) = second_spelled else {
         return refused(Which::Second, second_spelled);

@@ -4,6 +4,7 @@ use answer::STRING_LIMIT;
 use extend::State;
 use extend::Taken;
 ghost use Prim.Native.Nat.{_≤_};
+ghost use mathlib.Core.Path.{_≡_};
 ghost use lib.ListN.{length};
 ghost use Rattle.answer.specs.Limits.{string-limit};
 ghost use Rattle.tail.specs.Product.{Product-table};
@@ -12,6 +13,13 @@ ghost use Rattle.spell.specs.Spell.{Spells-string};
 pub enum Spelled {
     Form(State),
     Refused(Refusal),
+}
+
+// A stack for any string within the limit.
+pub fn empty_stack() -> [u8; STRING_LIMIT]
+    ensures { λ r. ⌜ length r ≡ string-limit ⌝ }
+{
+    [0u8; STRING_LIMIT]
 }
 
 // One pass over the letters, up to a byte that is none.

@@ -1,20 +1,15 @@
 // String to form.
-use answer::STRING_LIMIT;
 use answer::Written;
 use spell::Spelled;
 ghost use Rattle.answer.specs.Written.{said};
 ghost use Rattle.squeeze.specs.String.{String-to-form};
-
-fn empty_stack() -> [u8; STRING_LIMIT] {
-    [0u8; STRING_LIMIT]
-}
 
 // The form is spelled on the stack first, so a short buffer is known before the first write.
 pub fn string_to_form(text: &[u8], buffer: &mut [u8]) -> Written
     ensures { λ r. ⌜ String-to-form (now (text .entry)) (now (buffer .entry)) (said r) (now (buffer .exit)) ⌝ }
 {
     let products = tail::products();
-    let mut stack = empty_stack();
+    let mut stack = spell::empty_stack();
     let spelled = spell::spell(&products, &mut stack, text);
     match spelled {
         Spelled::Refused(refusal) => Written::Refused(refusal),
