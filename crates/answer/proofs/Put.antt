@@ -1,15 +1,13 @@
 -- What a form written into a lent buffer, or refused for want of room, says of the answer and of every lent byte: shown
 -- once, for all calls that write a form. Assumes nothing.
-use mathlib.Core.Path.{_≡_, refl, ap, sym, _∙_}
-use mathlib.Core.List.{List, [], _∷_, _++_}
-use Prim.Native.Nat.{ℕ, _<_, _≤_}
+use mathlib.Core.Path.{_≡_, refl}
+use mathlib.Core.List.{List}
+use Prim.Native.Nat.{ℕ, _≤_}
 use native.Mathlib.Omega.{arith}
 use lib.ListN.{length, take, drop}
 use lib.Seq.{take-at, drop-at}
-use Rattle.form.specs.Count.{t-count, h-count}
 use Rattle.answer.specs.declared.Figures.{Figures}
-use Rattle.answer.specs.declared.Refusal.{Refusal}
-use Rattle.answer.specs.Refusal.{Said, accepted, refused, refusal}
+use Rattle.answer.specs.Refusal.{Said, accepted, refused}
 use Rattle.answer.specs.Written.{figures-of, put, Put-form, no-room, room}
 
 -- the form stands at the start of the buffer, and the bytes after it stay

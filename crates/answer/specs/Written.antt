@@ -1,9 +1,8 @@
 -- Document 01, "Refusals": the answer of a call that writes a form, and what it leaves in the lent buffer.
 use Prim.Native.Nat.{ℕ, _<_, _≤_}
-use mathlib.Core.List.{List, [], _∷_, _++_}
+use mathlib.Core.List.{List, _++_}
 use lib.ListN as L
 use Rattle.form.specs.Count.{t-count, h-count}
-use Rattle.answer.specs.declared.Refusal.{Refusal}
 use Rattle.answer.specs.declared.Refusal.the-variants.{NoRoom}
 use Rattle.answer.specs.declared.Figures.{Figures}
 use Rattle.answer.specs.declared.Written.{Written}

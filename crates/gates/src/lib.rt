@@ -1,6 +1,6 @@
 // Matrix to form: an accepted record is taken down to a letter list, and the string route makes its form.
 ghost use mathlib.Core.Path.{_≡_};
-ghost use Prim.Native.Nat.{_+_, _*_, _≤_};
+ghost use Prim.Native.Nat.{_+_, _≤_};
 ghost use lib.ListN.{length, take};
 ghost use Rattle.answer.specs.Written.{said};
 ghost use Rattle.accept.specs.Accept.{Accepted-record};

@@ -7,11 +7,11 @@ use mathlib.Core.List.{List, [], _∷_, _++_}
 use mathlib.Core.Path.{_≡_, refl, sym, ap, subst, _∙_}
 use lib.ListN.{length, getD, length-append}
 use Rattle.matrix.specs.Letter.{T}
-use Rattle.form.specs.Tail.{tails, tail-h, tail-b, tail-c, tail-a, head-text, tail-text}
+use Rattle.form.specs.Tail.{head-text}
 use Rattle.form.specs.Count.{h-count}
-use Rattle.form.proofs.Count.{length-head, length-tail}
+use Rattle.form.proofs.Count.{length-head}
 use Rattle.extend.specs.declared.State.{State}
-use Rattle.extend.specs.State.{Codes, no-codes, front, HT-above, SHT-above, codes-text, used, state-text, Spells}
+use Rattle.extend.specs.State.{Codes, front, HT-above, SHT-above, codes-text, used, state-text, Spells}
 use Rattle.extend.proofs.Spelling.{syllable-count, h-count-spelled}
 use Rattle.extend.proofs.Stack.{last-code}
 

@@ -2,7 +2,7 @@
 -- those of the text. Assumes nothing.
 use Prim.Native.Nat.{ℕ, _+_, _≤_, _<_}
 use native.Mathlib.Omega.{arith}
-use mathlib.Core.List.{List, _++_}
+use mathlib.Core.List.{List}
 use mathlib.Core.Path.{_≡_, sym, subst₂}
 use lib.ListN.{length, length-append}
 use Rattle.form.specs.Tail.{tail-text}

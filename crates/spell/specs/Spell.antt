@@ -1,7 +1,6 @@
 -- What a string gives before anything is written: a refusal, 2 then 1, or its form, as a stack and a state spell it.
 use Prim.Native.Nat.{ℕ, _≤_}
 use mathlib.Core.List.{List}
-use lib.ListN.{length}
 use Rattle.form.specs.Form.{Form-of}
 use Rattle.letter.specs.String.{Accepted-string, Refused-string}
 use Rattle.answer.specs.Limits.{string-limit}

@@ -3,11 +3,11 @@
 use Prim.Native.Nat.{ℕ}
 use native.Mathlib.Omega.{arith}
 use mathlib.Core.List.{List}
-use mathlib.Core.Path.{_≡_, sym, subst}
+use mathlib.Core.Path.{_≡_, subst}
 use Rattle.matrix.specs.declared.Matrix.{Matrix}
 use Rattle.answer.specs.declared.Figures.{Figures}
 use Rattle.answer.specs.declared.Refusal.{Refusal}
-use Rattle.answer.specs.Refusal.{Said, accepted, refused, number, place, refusal}
+use Rattle.answer.specs.Refusal.{Said, accepted, refusal}
 use Rattle.answer.proofs.Told.{refusal-told}
 use Rattle.accept.proofs.Judged.{accepted-not-refused}
 use Rattle.frame.specs.Calls.{Accepted-frame, Frame-to-matrix, refused-frame, accepted-frame}

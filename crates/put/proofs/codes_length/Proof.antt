@@ -1,6 +1,6 @@
 -- `put::codes_length` meets its contract. The loop's invariant: `sum` is the length of the text of the first `i` codes.
 -- The measure is what is left of them. Assumes nothing.
-use Prim.Native.Nat.{_+_, _≤_, _<_, _-_}
+use Prim.Native.Nat.{_≤_, _<_, _-_}
 use native.Mathlib.Omega.{arith}
 use mathlib.Core.Path.{_≡_, refl}
 use borrow.Author.Needs.{needs}
