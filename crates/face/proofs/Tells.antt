@@ -13,7 +13,7 @@ use Rattle.reader.specs.declared.Reading.{Reading}
 use Rattle.compare.specs.declared.Which.{Which}
 use Rattle.compare.specs.declared.Which.the-variants.{First, Second}
 use Rattle.compare.specs.Compare.{Verdict, same, phase, different, refused as refused-of}
-use Rattle.face.specs.Word.{packed, figures-word, reading-word, record-word, verdict-word, which-number, Legible, Legible-refusal, Legible-figures, Legible-reading, Legible-record, Legible-verdict}
+use Rattle.face.specs.Word.{packed, figures-word, reading-word, record-word, verdict-word, which-number, Legible, Legible-figures, Legible-reading, Legible-record, Legible-verdict}
 use Rattle.face.specs.Calls.{left-in}
 
 -- the lowest 16 bits of a number, and what stands above them

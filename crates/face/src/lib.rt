@@ -11,7 +11,6 @@ use matrix::Matrix;
 use reader::Read;
 use reader::Reading;
 ghost use mathlib.Core.Path.{_≡_};
-ghost use Prim.Native.Nat.{_+_, _*_, _^_, _≤_};
 ghost use Rattle.answer.specs.Refusal.{number, place};
 ghost use Rattle.answer.specs.Written.{said};
 ghost use Rattle.accept.specs.Accept.{coefficients};

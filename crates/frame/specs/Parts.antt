@@ -1,11 +1,9 @@
 -- Document 01, "Frames": what the parts of a frame's text spell, one by one.
-use Prim.Native.Nat.{ℕ, _+_, _^_, _<_}
+use Prim.Native.Nat.{ℕ, _^_, _<_}
 use mathlib.Core.List.{List, _++_}
 use mathlib.Core.Path.{_≡_}
-use lib.IntN.{ℤ, pos}
-use lib.ListN.{length, getD}
-use Rattle.ring.specs.declared.Element.{Element}
-use Rattle.ring.specs.Element.{element}
+use lib.IntN.{ℤ}
+use lib.ListN.{length}
 use Rattle.matrix.specs.declared.Matrix.{Matrix}
 use Rattle.accept.specs.Accept.{coefficients}
 use Rattle.frame.specs.Digit.{digits, Digits, First-bad-digit}

@@ -1,22 +1,11 @@
 -- `face::chorvadhim_matrix_to_form` meets its contract: what the call says of the lent record is legible, and is packed.
 -- Assumes nothing.
 use borrow.Author.Needs.{needs}
-use mathlib.Core.List.{List}
-use mathlib.Core.Path.{_≡_, subst}
-use Prim.Native.Nat.{ℕ}
-use Rattle.matrix.specs.declared.Matrix.{Matrix}
-use Rattle.answer.specs.declared.Figures.{Figures}
-use Rattle.answer.specs.Refusal.{Said}
 use Rattle.gates.specs.Gates.{Matrix-to-form}
+use Rattle.face.proofs.Equal.{of-equal}
 use Rattle.face.proofs.Legible.{matrix-to-form-legible}
 use Rattle.face.proofs.chorvadhim_matrix_to_form.Statement.{statement}
 use Rattle.face.proofs.chorvadhim_matrix_to_form.Tie as tie
-
--- a promise of a record is one of its equal
-of-equal :
-    {m n : Matrix} {before after : List ℕ} {answer : Said Figures} → m ≡ n → Matrix-to-form m before answer after →
-    Matrix-to-form n before answer after
-of-equal {before = before} {after = after} {answer = answer} = subst (λ (m : Matrix). Matrix-to-form m before answer after)
 
 record-of-requires : tie.Need-record-of-requires
 record-of-requires c κs = search needs
@@ -33,7 +22,7 @@ same-length c = search needs
 returns : tie.Need-returns
 returns c =
     let at-call = c .before .before .before in
-    let promised = of-equal (at-call .before .before .record-of .ensures) (at-call .matrix-to-form .ensures) in
+    let promised = of-equal Matrix-to-form (at-call .before .before .record-of .ensures) (at-call .matrix-to-form .ensures) in
     record { answer = _; promised = promised; legible = matrix-to-form-legible promised; says = c .written-word .ensures }
 
 pub chorvadhim-matrix-to-form-spec : {M : Type 1} → statement M

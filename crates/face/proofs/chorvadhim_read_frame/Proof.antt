@@ -2,7 +2,7 @@
 -- packed; a refusal is packed, and the array stays. Assumes nothing.
 use borrow.Author.Needs.{needs}
 use mathlib.Core.List.{List}
-use mathlib.Core.Path.{_≡_, refl, subst}
+use mathlib.Core.Path.{refl, subst}
 use Prim.Native.Nat.{ℕ}
 use Rattle.frame.specs.declared.Framed.{Framed}
 use Rattle.frame.specs.Calls.{said-framed, Frame-to-matrix}
