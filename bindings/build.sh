@@ -48,7 +48,8 @@ build_rust() {
 
 # A C program over the header.
 build_c() {
-    "${c_compiler[@]}" -std=c99 -O2 -Wall -Wextra -Werror -Ibindings "bindings/$1.c" target/staticlib/libface.a -o "$out/$1"
+    "${c_compiler[@]}" -std=c99 -pedantic -O2 -Wall -Wextra -Werror -Ibindings \
+        "bindings/$1.c" target/staticlib/libface.a -o "$out/$1"
 }
 
 run() {

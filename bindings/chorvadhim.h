@@ -8,6 +8,7 @@
  *   - A length is below 2^63.
  *   - What is lent to be written overlaps nothing else that the call is given, and nobody else reads or writes it
  *     during the call. What is lent to be read is not written during the call.
+ *   - A megabyte of stack is left: the form reader goes one call deeper with each syllable. The others take far less.
  * Nothing is asked of the values: every text, every exponent and every coefficient has its answer.
  *
  * What every call promises:

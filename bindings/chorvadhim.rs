@@ -2,6 +2,7 @@
 //!
 //! The boundary (`chorvadhim.h`) asks for memory that is there, aligned, shorter than 2^63 bytes, and lent to nobody else
 //! while it is written. Rust's slices and arrays are all of that, whatever their length, so no call has to be refused here.
+//! It also asks for a megabyte of stack: half of what a Rust thread has by default.
 //! What the types do not say is tested: the processor when this is compiled, and each answer word when it is taken apart,
 //! so a library that answered outside its table would be stopped here.
 
@@ -160,8 +161,13 @@ fn figures(word: u64) -> Figures {
     }
 }
 
-fn written(word: u64) -> Result<Figures, Refusal> {
-    Ok(figures(ending(accepted(word, 40)?, 56)))
+/// The figures of a form, which lies in the room that was lent.
+fn written(word: u64, room: usize) -> Result<Figures, Refusal> {
+    let figures = figures(ending(accepted(word, 40)?, 56));
+    if figures.length > room {
+        broken(word)
+    }
+    Ok(figures)
 }
 
 fn exponent(word: u64) -> Result<u32, Refusal> {
@@ -171,19 +177,22 @@ fn exponent(word: u64) -> Result<u32, Refusal> {
 /// String to form, written at the start of the buffer.
 pub fn string_to_form(text: &[u8], buffer: &mut [u8]) -> Result<Figures, Refusal> {
     // Safety: each pointer and length is a slice's, and the one that is written is lent to this call alone.
-    written(unsafe { chorvadhim_string_to_form(text.as_ptr(), text.len(), buffer.as_mut_ptr(), buffer.len()) })
+    let word = unsafe { chorvadhim_string_to_form(text.as_ptr(), text.len(), buffer.as_mut_ptr(), buffer.len()) };
+    written(word, buffer.len())
 }
 
 /// Matrix to form, written at the start of the buffer.
 pub fn matrix_to_form(exponent: u32, coefficients: &Coefficients, buffer: &mut [u8]) -> Result<Figures, Refusal> {
     // Safety: as above; the array has the sixteen places that the boundary asks for.
-    written(unsafe { chorvadhim_matrix_to_form(exponent, coefficients.as_ptr(), buffer.as_mut_ptr(), buffer.len()) })
+    let word = unsafe { chorvadhim_matrix_to_form(exponent, coefficients.as_ptr(), buffer.as_mut_ptr(), buffer.len()) };
+    written(word, buffer.len())
 }
 
 /// Frame to form, written at the start of the buffer.
 pub fn frame_to_form(text: &[u8], buffer: &mut [u8]) -> Result<Figures, Refusal> {
     // Safety: as above.
-    written(unsafe { chorvadhim_frame_to_form(text.as_ptr(), text.len(), buffer.as_mut_ptr(), buffer.len()) })
+    let word = unsafe { chorvadhim_frame_to_form(text.as_ptr(), text.len(), buffer.as_mut_ptr(), buffer.len()) };
+    written(word, buffer.len())
 }
 
 /// The form reader.

@@ -5,7 +5,7 @@ mod exact;
 mod inputs;
 mod whole;
 
-use exact::{Answer, Tails, FRAME_LENGTH};
+use exact::{Answer, Tails, FORM_LIMIT, FRAME_LENGTH};
 use inputs::Dice;
 use std::sync::atomic::{AtomicUsize, Ordering};
 use std::sync::Mutex;
@@ -131,73 +131,84 @@ fn shown(bytes: &[u8]) -> String {
     bytes.escape_ascii().to_string()
 }
 
+/// What a call answers, or nothing where it changed the input that it was lent to read.
+fn answered<I: Clone + PartialEq, V>(input: &I, call: impl FnOnce(&I) -> V) -> Option<V> {
+    let before = input.clone();
+    let given = call(input);
+    (*input == before).then_some(given)
+}
+
 /// A call that writes a form into a lent buffer.
-fn test_written(
+fn test_written<I: Clone + PartialEq>(
     dice: &mut Dice,
     tally: &mut Tally,
+    input: &I,
     form: Answer<Vec<u8>>,
-    call: impl Fn(&mut [u8]) -> Result<chorvadhim::Figures, chorvadhim::Refusal>,
-    input: impl Fn() -> String,
+    call: impl Fn(&I, &mut [u8]) -> Result<chorvadhim::Figures, chorvadhim::Refusal>,
+    shown_input: impl Fn() -> String,
 ) {
     let room = room_about(dice, form.as_ref().map_or(20, Vec::len));
     let mut ours = Lent::new(dice, room);
     let mut wanted = ours.clone();
     let answer = form.and_then(|form| exact::put_form(&form, wanted.room()));
-    let given = call(ours.room()).map(figures).map_err(refusal);
-    let came = given == answer && ours == wanted;
-    let line = || format!("{} with room {}: {:?}, wanted {:?}, lent {}", input(), room, given, answer, shown(&ours.0));
+    let given = answered(input, |input| call(input, ours.room()).map(figures).map_err(refusal));
+    let came = given == Some(answer) && ours == wanted;
+    let line = || format!("{} with room {}: {:?}, wanted {:?}, lent {}", shown_input(), room, given, answer, shown(&ours.0));
     tally.count(&answer, came, line);
 }
 
 fn test_string_to_form(dice: &mut Dice, tails: &Tails, tally: &mut Tally) {
     let text = inputs::string(dice);
     let form = exact::form_of_string(tails, &text);
-    test_written(dice, tally, form, |buffer| chorvadhim::string_to_form(&text, buffer), || shown(&text));
+    test_written(dice, tally, &text, form, |text, buffer| chorvadhim::string_to_form(text, buffer), || shown(&text));
 }
 
 fn test_matrix_to_form(dice: &mut Dice, tails: &Tails, tally: &mut Tally) {
-    let (exponent, coefficients) = inputs::record(dice);
-    let form = exact::form_of_matrix(tails, exponent, &coefficients);
-    let call = |buffer: &mut [u8]| chorvadhim::matrix_to_form(exponent, &coefficients, buffer);
-    test_written(dice, tally, form, call, || format!("{} {:?}", exponent, coefficients));
+    let record = inputs::record(dice);
+    let form = exact::form_of_matrix(tails, record.0, &record.1);
+    let call = |record: &inputs::Record, buffer: &mut [u8]| chorvadhim::matrix_to_form(record.0, &record.1, buffer);
+    test_written(dice, tally, &record, form, call, || format!("{:?}", record));
 }
 
 fn test_frame_to_form(dice: &mut Dice, tails: &Tails, tally: &mut Tally) {
     let text = inputs::frame(dice);
     let form = exact::form_of_frame(tails, &text);
-    test_written(dice, tally, form, |buffer| chorvadhim::frame_to_form(&text, buffer), || shown(&text));
+    test_written(dice, tally, &text, form, |text, buffer| chorvadhim::frame_to_form(text, buffer), || shown(&text));
 }
 
 fn test_read_form(dice: &mut Dice, tails: &Tails, tally: &mut Tally) {
     let text = inputs::claimed_form(dice);
     let wanted = exact::read_form(tails, &text);
-    let given = chorvadhim::read_form(&text).map_err(refusal);
-    let given = given.map(|reading| (figures(reading.figures), reading.tail as usize));
-    tally.count(&wanted, given == wanted, || format!("{}: {:?}, wanted {:?}", shown(&text), given, wanted));
+    let numbers = |reading: chorvadhim::Reading| (figures(reading.figures), reading.tail as usize);
+    let given = answered(&text, |text| chorvadhim::read_form(text).map(numbers).map_err(refusal));
+    tally.count(&wanted, given == Some(wanted), || format!("{}: {:?}, wanted {:?}", shown(&text), given, wanted));
 }
 
 fn test_compare(dice: &mut Dice, _: &Tails, tally: &mut Tally) {
     let first = inputs::string(dice);
-    let second = if dice.one_in(3) { inputs::string(dice) } else { inputs::rewritten(dice, &first) };
-    let wanted = exact::compare(&first, &second);
-    let given = chorvadhim::compare(&first, &second);
-    let given = given.map_err(|(which, given)| (which == chorvadhim::Which::Second, refusal(given)));
-    let given = given.map(|compared| match compared {
+    let other = if dice.one_in(3) { inputs::string(dice) } else { inputs::rewritten(dice, &first) };
+    // At times both strings are one and the same memory.
+    let second = if dice.one_in(16) { &first } else { &other };
+    let wanted = exact::compare(&first, second);
+    let verdict = |compared: chorvadhim::Compared| match compared {
         chorvadhim::Compared::Same => Some(0),
         chorvadhim::Compared::Phase(phase) => Some(phase),
         chorvadhim::Compared::Different => None,
-    });
-    let line = || format!("{} {}: {:?}, wanted {:?}", shown(&first), shown(&second), given, wanted);
-    tally.count(&wanted.map_err(|(_, refusal)| refusal), given == wanted, line);
+    };
+    let refused = |(which, given)| (which == chorvadhim::Which::Second, refusal(given));
+    let call = |first: &Vec<u8>| answered(second, |second| chorvadhim::compare(first, second).map(verdict).map_err(refused));
+    let given = answered(&first, call).flatten();
+    let line = || format!("{} {}: {:?}, wanted {:?}", shown(&first), shown(second), given, wanted);
+    tally.count(&wanted.map_err(|(_, refusal)| refusal), given == Some(wanted), line);
 }
 
 /// A call that writes a record's coefficients into a lent array.
 fn test_coefficients(
     dice: &mut Dice,
     tally: &mut Tally,
+    text: &Vec<u8>,
     wanted: Answer<inputs::Record>,
-    call: impl Fn(&mut chorvadhim::Coefficients) -> Result<u32, chorvadhim::Refusal>,
-    input: impl Fn() -> String,
+    call: impl Fn(&[u8], &mut chorvadhim::Coefficients) -> Result<u32, chorvadhim::Refusal>,
 ) {
     // Three arrays beside each other: the outer two must stay.
     let mut lent = [[dice.number() as i64; 16]; 3];
@@ -205,33 +216,33 @@ fn test_coefficients(
     if let Ok((_, coefficients)) = wanted {
         after[1] = coefficients;
     }
-    let given = call(&mut lent[1]).map_err(refusal);
-    let came = given == wanted.map(|(exponent, _)| exponent) && lent == after;
-    tally.count(&wanted, came, || format!("{}: {:?} {:?}, wanted {:?}", input(), given, lent, wanted));
+    let given = answered(text, |text| call(text, &mut lent[1]).map_err(refusal));
+    let came = given == Some(wanted.map(|(exponent, _)| exponent)) && lent == after;
+    tally.count(&wanted, came, || format!("{}: {:?} {:?}, wanted {:?}", shown(text), given, lent, wanted));
 }
 
 fn test_string_to_matrix(dice: &mut Dice, _: &Tails, tally: &mut Tally) {
     let text = inputs::string(dice);
     let wanted = exact::string_to_matrix(&text);
-    test_coefficients(dice, tally, wanted, |lent| chorvadhim::string_to_matrix(&text, lent), || shown(&text));
+    test_coefficients(dice, tally, &text, wanted, chorvadhim::string_to_matrix);
 }
 
 fn test_read_frame(dice: &mut Dice, _: &Tails, tally: &mut Tally) {
     let text = inputs::frame(dice);
     let wanted = exact::read_frame(&text);
-    test_coefficients(dice, tally, wanted, |lent| chorvadhim::read_frame(&text, lent), || shown(&text));
+    test_coefficients(dice, tally, &text, wanted, chorvadhim::read_frame);
 }
 
 fn test_write_frame(dice: &mut Dice, _: &Tails, tally: &mut Tally) {
-    let (exponent, coefficients) = inputs::record(dice);
+    let record = inputs::record(dice);
     let room = room_about(dice, FRAME_LENGTH);
     let mut ours = Lent::new(dice, room);
     let mut wanted = ours.clone();
-    let answer = exact::write_frame(exponent, &coefficients, wanted.room());
-    let given = chorvadhim::write_frame(exponent, &coefficients, ours.room()).map_err(refusal);
-    let input = || format!("{} {:?} with room {}", exponent, coefficients, room);
-    let line = || format!("{}: {:?}, wanted {:?}, lent {}", input(), given, answer, shown(&ours.0));
-    tally.count(&answer, given == answer && ours == wanted, line);
+    let answer = exact::write_frame(record.0, &record.1, wanted.room());
+    let call = |record: &inputs::Record| chorvadhim::write_frame(record.0, &record.1, ours.room()).map_err(refusal);
+    let given = answered(&record, call);
+    let line = || format!("{:?} with room {}: {:?}, wanted {:?}, lent {}", record, room, given, answer, shown(&ours.0));
+    tally.count(&answer, given == Some(answer) && ours == wanted, line);
 }
 
 // --- All inputs, in chunks of their own seeds, on every processor ---
@@ -270,7 +281,15 @@ fn run_all() -> Vec<Tally> {
     tallies.into_inner().unwrap()
 }
 
+/// The stack that the boundary asks for is enough for the form of the most syllables; else the program is stopped here.
+fn test_stack() {
+    let read = || chorvadhim::read_form(&b"HT".repeat(FORM_LIMIT / 2)).is_ok();
+    let thread = thread::Builder::new().stack_size(1 << 20).spawn(read).unwrap();
+    assert!(thread.join().unwrap(), "a form was refused");
+}
+
 fn main() {
+    test_stack();
     let (mut inputs, mut failed) = (0, 0);
     for tally in run_all() {
         println!("{}", tally.line());

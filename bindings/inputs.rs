@@ -125,7 +125,11 @@ pub fn string(dice: &mut Dice) -> Vec<u8> {
         0 => {
             let length = dice.pick(&[STRING_LIMIT + 1, STRING_LIMIT + 2, 5000, FORM_LIMIT, 20000]);
             let text = letters(dice, length);
-            if dice.one_in(2) { with_bad_bytes(dice, text) } else { text }
+            if dice.one_in(2) {
+                with_bad_bytes(dice, text)
+            } else {
+                text
+            }
         }
         1..=40 => {
             let text = letters(dice, length);
@@ -356,5 +360,9 @@ fn damaged_frame(dice: &mut Dice, mut text: Vec<u8>) -> Vec<u8> {
 /// A frame: of any record with a right check word, or damaged.
 pub fn frame(dice: &mut Dice) -> Vec<u8> {
     let text = frame_of(record(dice));
-    if dice.one_in(4) { damaged_frame(dice, text) } else { text }
+    if dice.one_in(4) {
+        damaged_frame(dice, text)
+    } else {
+        text
+    }
 }

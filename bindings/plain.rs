@@ -326,19 +326,13 @@ impl Descent {
     }
 }
 
-/// The power of ω in ω^p √2^k: where k is odd, √2 = ω − ω³ spreads it over two places.
+/// The power of ω in ω^p √2^k: where k is odd, √2 = ω − ω³ spreads it over the places p + 1 and p + 7, modulo 8.
 fn phase(x: &Element) -> usize {
-    let sign = |i: usize| usize::from(x[i] < 0) * 4;
-    let found: Vec<usize> = (0..4).filter(|&i| x[i] != 0).collect();
-    if found.len() == 1 {
-        return found[0] + sign(found[0]);
-    }
-    // ω^p (ω − ω³): the places p + 1 and p + 7, modulo 8.
-    let (first, second) = (found[0] + sign(found[0]), found[1] + sign(found[1]));
-    if (first + 2) % 8 == second {
-        (first + 1) % 8
-    } else {
-        (second + 1) % 8
+    let mut places = (0..4).filter(|&i| x[i] != 0).map(|i| if x[i] < 0 { i + 4 } else { i });
+    match (places.next(), places.next()) {
+        (Some(first), Some(second)) if (first + 2) % 8 == second => (first + 1) % 8,
+        (Some(_), Some(second)) => (second + 1) % 8,
+        (place, _) => place.unwrap_or(0),
     }
 }
 
