@@ -44,20 +44,6 @@ fn is_digit(b: u8) -> bool
     }
 }
 
-// The first place of a byte that is no digit.
-fn first_bad_digit(text: &[u8]) -> Found
-    ensures { λ r. ⌜ Finds (now (text .entry)) r ⌝ }
-{
-    let mut i = 0;
-    while i < text.len() {
-        if !is_digit(text[i]) {
-            return Found::Bad(i);
-        }
-        i += 1;
-    }
-    Found::Nothing
-}
-
 // The number below sixteen that a digit stands for.
 fn digit_value(b: u8) -> u32
     requires { ⌜ is-digit b ≡ true ⌝ }
@@ -77,6 +63,47 @@ fn digit_of(n: u32) -> u8
     } else {
         (87 + n) as u8
     }
+}
+
+// A digit, whatever the byte: a digit gives itself.
+fn as_digit(b: u8) -> u8
+    ensures { λ r. ⌜ is-digit r ≡ true ⌝ }
+{
+    let wide = b as u32;
+    digit_of((wide + 9 * (wide / 64)) % 16)
+}
+
+// True only of digits. The walk goes to the end, with one test a byte, so that a compiler can take many bytes at a time.
+fn are_digits(text: &[u8]) -> bool
+    ensures { λ r. ⌜ (r ≡ true → Digits (now (text .entry))) ⌝ }
+{
+    let mut all = true;
+    let mut i = 0;
+    while i < text.len() {
+        let b = text[i];
+        if as_digit(b) != b {
+            all = false;
+        }
+        i += 1;
+    }
+    all
+}
+
+// The first place of a byte that is no digit.
+fn first_bad_digit(text: &[u8]) -> Found
+    ensures { λ r. ⌜ Finds (now (text .entry)) r ⌝ }
+{
+    if are_digits(text) {
+        return Found::Nothing;
+    }
+    let mut i = 0;
+    while i < text.len() {
+        if !is_digit(text[i]) {
+            return Found::Bad(i);
+        }
+        i += 1;
+    }
+    Found::Nothing
 }
 
 // The number that up to eight digits stand for.

@@ -19,6 +19,12 @@ Inv-loop text i₀ i = (i ≤ length text) × Digits (take i text)
 abbrev μ-loop : tie.MeasureT-loop
 μ-loop text i₀ i = length text - i
 
+are-digits-requires : tie.Need-are-digits-requires Inv-loop μ-loop
+are-digits-requires c κs = search needs
+
+returns : tie.Need-returns Inv-loop μ-loop
+returns c = c .before .are-digits .ensures (c .if1 .taken)
+
 loop-holds : tie.Need-loop-holds Inv-loop μ-loop
 loop-holds c = (search needs, none)
 
@@ -28,8 +34,8 @@ shared-slice-read-is-digit c = search needs
 is-digit-requires : tie.Need-is-digit-requires Inv-loop μ-loop
 is-digit-requires c κs = search needs
 
-returns : tie.Need-returns Inv-loop μ-loop
-returns c = fails-after 0 _ _ (search needs) (search needs) (sym (c .before .is-digit .ensures) ∙ not-true _ (c .if1 .taken))
+returns-2 : tie.Need-returns-2 Inv-loop μ-loop
+returns-2 c = fails-after 0 _ _ (search needs) (search needs) (sym (c .before .is-digit .ensures) ∙ not-true _ (c .if2 .taken))
 
 add-i : tie.Need-add-i Inv-loop μ-loop
 add-i c = search needs
@@ -42,11 +48,11 @@ loop-again c =
     let t = c .before .before .before in (
       search needs,
       rw add-one
-          (every-grows 0 _ _ (t .loop-test .taken) (t .before .loop .inv .1) (sym (c .before .is-digit .ensures) ∙ not-false _ (c .if1 .left))),
+          (every-grows 0 _ _ (t .loop-test .taken) (t .before .loop .inv .1) (sym (c .before .is-digit .ensures) ∙ not-false _ (c .if2 .left))),
     )
 
-returns-2 : tie.Need-returns-2 Inv-loop μ-loop
-returns-2 c = rw (take-all _ _ (c .loop-test .left)) at (c .before .loop .inv .1)
+returns-3 : tie.Need-returns-3 Inv-loop μ-loop
+returns-3 c = rw (take-all _ _ (c .loop-test .left)) at (c .before .loop .inv .1)
 
 pub first-bad-digit-spec : {M : Type 1} → statement M
 first-bad-digit-spec =
@@ -54,11 +60,13 @@ first-bad-digit-spec =
     (tie.spec
     Inv-loop
     μ-loop
+    are-digits-requires
+    returns
     loop-holds
     shared-slice-read-is-digit
     is-digit-requires
-    returns
+    returns-2
     add-i
     loop-less
     loop-again
-    returns-2)
+    returns-3)
