@@ -92,6 +92,22 @@ low-value b e h = let r = low-range b e h in omega (arith, digit-low (b - 48) (o
 pub high-value : (b : ℕ) → is-digit b ≡ true → 58 ≤ b → b ≡ digit (b - 87)
 high-value b e h = let r = high-range b e h in omega (arith, digit-high (b - 87) (omega arith))
 
+-- the lowest bits of a digit, with 9 more for a letter, are that number
+pub folded-value : (b : ℕ) → is-digit b ≡ true → digit ((b + 9 * (b / 64)) % 16) ≡ b
+folded-value b e = by (ltb b 58) refl
+  where
+    by : (t : Bool) → ltb b 58 ≡ t → digit ((b + 9 * (b / 64)) % 16) ≡ b
+    by true f =
+        let below = ltb-true b 58 f in
+        let from = low-range b e below in
+        let sum : b + 9 * (b / 64) ≡ 48 + (b - 48) = omega arith in
+        ap (λ (n : ℕ). digit (n % 16)) sum ∙ ap digit (omega arith) ∙ sym (low-value b e below)
+    by false f =
+        let above = ltb-false b 58 f in
+        let between = high-range b e above in
+        let sum : b + 9 * (b / 64) ≡ 96 + (b - 87) = omega arith in
+        ap (λ (n : ℕ). digit (n % 16)) sum ∙ ap digit (omega arith) ∙ sym (high-value b e above)
+
 -- ---- numbers in digits
 pub digits-length : (k n : ℕ) → length (digits k n) ≡ k
 unfolding digits

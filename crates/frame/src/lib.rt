@@ -6,6 +6,7 @@ use answer::Refusal;
 use matrix::Matrix;
 ghost use Prim.Native.Nat.{_<_, _≤_};
 ghost use mathlib.Core.Bool.{true};
+ghost use mathlib.Core.Logic.{_↔_};
 ghost use mathlib.Core.Path.{_≡_};
 ghost use lib.ListN.{length};
 ghost use Rattle.answer.specs.Limits.{frame-length, check-word-place};
@@ -68,14 +69,15 @@ fn digit_of(n: u32) -> u8
 // A digit, whatever the byte: a digit gives itself.
 fn as_digit(b: u8) -> u8
     ensures { λ r. ⌜ is-digit r ≡ true ⌝ }
+    ensures { λ r. ⌜ (is-digit b ≡ true → r ≡ b) ⌝ }
 {
     let wide = b as u32;
     digit_of((wide + 9 * (wide / 64)) % 16)
 }
 
-// True only of digits. The walk goes to the end, with one test a byte, so that a compiler can take many bytes at a time.
+// Whether every byte is a digit. The walk goes to the end, so that a compiler can take many bytes at a time.
 fn are_digits(text: &[u8]) -> bool
-    ensures { λ r. ⌜ (r ≡ true → Digits (now (text .entry))) ⌝ }
+    ensures { λ r. ⌜ (r ≡ true ↔ Digits (now (text .entry))) ⌝ }
 {
     let mut all = true;
     let mut i = 0;

@@ -23,7 +23,7 @@ are-digits-requires : tie.Need-are-digits-requires Inv-loop μ-loop
 are-digits-requires c κs = search needs
 
 returns : tie.Need-returns Inv-loop μ-loop
-returns c = c .before .are-digits .ensures (c .if1 .taken)
+returns c = c .before .are-digits .ensures .0 (c .if1 .taken)
 
 loop-holds : tie.Need-loop-holds Inv-loop μ-loop
 loop-holds c = (search needs, none)
