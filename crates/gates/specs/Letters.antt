@@ -9,3 +9,7 @@ use Rattle.matrix.specs.Letter.{Letters, matrix-of}
 pub record Spelt (m : Matrix) (text : List ℕ) : Type 0 where
   pub letters : Letters text
   pub same : Same (matrix-of text) m
+
+-- the most letters of an accepted record: three for each of 80 steps, and at the end three, T, SSS and WWWWWWW
+abbrev pub most-letters : ℕ
+most-letters = 254

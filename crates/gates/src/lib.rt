@@ -7,14 +7,14 @@ ghost use Rattle.accept.specs.Accept.{Accepted-record};
 ghost use Rattle.put.specs.Place.{Placed};
 ghost use Rattle.complete.specs.Descent.{syllable-taken, past-syllable, axis-taken, upright, diagonal-text, word-below};
 ghost use Rattle.gates.specs.Descends.{Descends, Above-zero};
-ghost use Rattle.gates.specs.Letters.{Spelt};
+ghost use Rattle.gates.specs.Letters.{Spelt, most-letters};
 ghost use Rattle.gates.specs.Gates.{Matrix-to-form};
 use accept::Judgement;
 use answer::Written;
 use complete::Rest;
 use matrix::Matrix;
 
-// The most letters of an accepted record: three for each of 80 steps, and at the end three, T, SSS and WWWWWWW.
+// The most letters of an accepted record.
 const MOST_LETTERS: usize = 254;
 
 // Where the letters end, and what is left of the record.
@@ -94,9 +94,9 @@ fn put_end(letters: &mut [u8], at: usize, rest: Rest) -> usize
 
 // The letter list of an accepted record.
 fn put_letters(letters: &mut [u8], record: Matrix) -> usize
-    requires { ⌜ length (now letters) ≡ 254 ⌝ }
+    requires { ⌜ length (now letters) ≡ most-letters ⌝ }
     requires { ⌜ Accepted-record «record» ⌝ }
-    ensures { λ r. ⌜ r ≤ 254 ⌝ }
+    ensures { λ r. ⌜ r ≤ most-letters ⌝ }
     ensures { λ r. ⌜ Spelt «record» (take r (now (letters .exit))) ⌝ }
 {
     let vector = descend::vector_of(record);

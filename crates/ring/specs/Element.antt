@@ -7,10 +7,11 @@ use Rattle.ring.specs.declared.Element.{Element}
 abbrev pub element : ℤ → ℤ → ℤ → ℤ → Element
 element a0 a1 a2 a3 = record { a0 = a0; a1 = a1; a2 = a2; a3 = a3 }
 
--- "The fixed elements one, ω, ω² and √2": √2 = ω − ω³.
+-- zero
 unfoldable pub nothing : Element
 nothing = element (pos 0) (pos 0) (pos 0) (pos 0)
 
+-- "The fixed elements one, ω, ω² and √2": √2 = ω − ω³.
 unfoldable pub one : Element
 one = element (pos 1) (pos 0) (pos 0) (pos 0)
 

@@ -6,6 +6,7 @@ use lib.ListN.{length, take}
 use lib.Seq.{length-take-le}
 use Rattle.accept.specs.Accept.{Accepted-record, Refused-record, Judged}
 use Rattle.gates.specs.Gates.{refused-record}
+use Rattle.gates.specs.Letters.{most-letters}
 use Rattle.gates.proofs.Route.{by-string}
 use borrow.Author.Needs.{needs}
 use Rattle.gates.proofs.matrix_to_form.Statement.{statement}
@@ -23,7 +24,7 @@ refused c = subst (Judged (c .before .before .before .before .args .«record»))
 -- the letters handed on are as many as were written
 letters-length : (c : tie.After-put-letters) → length (take (c .put-letters .result) (c .put-letters .last .0)) ≡ c .put-letters .result
 letters-length c =
-    let size : length (c .before .before .no-letters .result) ≡ 254 = search needs in
+    let size : length (c .before .before .no-letters .result) ≡ most-letters = search needs in
     length-take-le (c .put-letters .result) (c .put-letters .last .0) (omega (arith, c .put-letters .ensures .0, c .put-letters .kept .0))
 
 judge-requires : tie.Need-judge-requires

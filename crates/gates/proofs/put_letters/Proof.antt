@@ -13,6 +13,7 @@ use Rattle.complete.specs.Vector.{vector-of}
 use Rattle.complete.specs.Descent.{rest as a-rest, past-syllable, word-below}
 use Rattle.put.proofs.Place.{placed-length}
 use Rattle.gates.specs.Descends.{Descends, Above-zero}
+use Rattle.gates.specs.Letters.{most-letters}
 use Rattle.gates.proofs.Descends.{descends-start, descends-syllable}
 use Rattle.gates.proofs.Taken.{length-syllable}
 use Rattle.gates.proofs.Spelt.{step-down, all-written, spelt}
@@ -22,7 +23,7 @@ use Rattle.gates.proofs.put_letters.Tie as tie
 abbrev Inv-loop : tie.InvT-loop
 Inv-loop letters₀ rest₀ at₀ left₀ letters rest at left =
     Descends rest left
-    × (at + 3 * left + 14 ≤ 254)
+    × (at + 3 * left + 14 ≤ most-letters)
     × (length letters ≡ length letters₀)
     × (take at letters ++ word-below left rest ≡ word-below left₀ rest₀)
 
