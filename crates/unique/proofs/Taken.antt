@@ -3,7 +3,7 @@
 -- Lemma 4.10 speaks of that form and of what is left of it. Assumes nothing.
 use mathlib.Core.Path.{_≡_, refl, ap, sym, _∙_, subst}
 use mathlib.Core.Bool.{Bool, false}
-use mathlib.Core.List.{List, _++_}
+use mathlib.Core.List.{List, _∷_, _++_, append-assoc}
 use Prim.Native.Nat.{ℕ, suc, _+_, _<_}
 use native.Mathlib.Omega.{arith}
 use Rattle.matrix.specs.declared.Matrix.{Matrix}
@@ -12,10 +12,10 @@ use Rattle.matrix.specs.Letter.{matrix-of}
 use Rattle.matrix.proofs.Times.{matrix-of-append}
 use Rattle.matrix.proofs.Same.{same-of-equal, same-sym, same-trans}
 use Rattle.matrix.proofs.Unitary.{unitary-matrix-of}
-use Rattle.form.specs.Tail.{tails}
-use Rattle.form.specs.Form.{Syllable, Parts, Form, form-text, front-text, syllable-text, syllables-text}
+use Rattle.form.specs.Tail.{tails, tail-text}
+use Rattle.form.specs.Form.{Syllable, HT, SHT, Parts, Form, form-text, front-text, syllable-text, syllables-text}
 use Rattle.form.specs.Count.{t-count}
-use Rattle.form.proofs.Count.{t-count-append}
+use Rattle.form.proofs.Count.{t-count-append, t-count-syllable}
 use Rattle.form.proofs.Spelled.{form-is-letters}
 use Rattle.extend.proofs.Exists.{form-exists}
 use Rattle.complete.proofs.Complete.{complete}
@@ -36,8 +36,25 @@ record Taken (parts : Parts) (row : Axis) : Type 0 where
 abbrev headless : List Syllable → ℕ → Parts
 headless syllables tail = record { front = false; syllables = syllables; tail = tail }
 
+-- a syllable at the front of a form without a leading T
+taken-syllable :
+    (parts : Parts) {row : Axis} (s : Syllable) {rest : List Syllable} → Right-one row (syllable-text s) →
+    parts .front ≡ false → parts .syllables ≡ s ∷ rest → Taken parts row
+unfolding form-text front-text syllables-text
+taken-syllable parts s {rest} right front syllables =
+    record {
+      syllable = syllable-text s;
+      right = right;
+      one-T = t-count-syllable s;
+      rest = headless rest (parts .tail);
+      same-tail = refl;
+      joined =
+          (λ i. form-text (record { front = front i; syllables = syllables i; tail = parts .tail }))
+          ∙ append-assoc (syllable-text s) (syllables-text rest) (tail-text (parts .tail));
+    }
+
 taken : (parts : Parts) {row : Axis} → Leftmost parts row → Taken parts row
-unfolding form-text front-text syllable-text syllables-text t-count
+unfolding form-text front-text syllable-text t-count
 taken parts (third-for-T front) =
     record {
       syllable = _;
@@ -47,24 +64,8 @@ taken parts (third-for-T front) =
       same-tail = refl;
       joined = ap (λ (b : Bool). form-text (record { front = b; syllables = parts .syllables; tail = parts .tail })) front;
     }
-taken parts (first-for-HT {rest} front syllables) =
-    record {
-      syllable = _;
-      right = HT-by-first;
-      one-T = refl;
-      rest = headless rest (parts .tail);
-      same-tail = refl;
-      joined = λ i. form-text (record { front = front i; syllables = syllables i; tail = parts .tail });
-    }
-taken parts (second-for-SHT {rest} front syllables) =
-    record {
-      syllable = _;
-      right = SHT-by-second;
-      one-T = refl;
-      rest = headless rest (parts .tail);
-      same-tail = refl;
-      joined = λ i. form-text (record { front = front i; syllables = syllables i; tail = parts .tail });
-    }
+taken parts (first-for-HT front syllables) = taken-syllable parts HT HT-by-first front syllables
+taken parts (second-for-SHT front syllables) = taken-syllable parts SHT SHT-by-second front syllables
 
 of-form : {u : Matrix} {f : List ℕ} (form : Form f) → Same (matrix-of f) u → {m : ℕ} (least : Least-exponent u (suc m)) → Loses-one least
 of-form {u} {f} form same {m} least =
