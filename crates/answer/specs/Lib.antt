@@ -1,3 +1,4 @@
 pub mod Limits
 pub mod Refusal
 pub mod Written
+pub mod Returned

@@ -1,4 +1,5 @@
 // Answers: the refusal table with each number and place, the limits that it names, and the figures of a form.
+use matrix::Matrix;
 ghost use mathlib.Core.Path.{_≡_};
 ghost use Rattle.answer.specs.Refusal.{number, place};
 
@@ -37,6 +38,12 @@ pub struct Figures {
 // The answer of a call that writes a form.
 pub enum Written {
     Form(Figures),
+    Refused(Refusal),
+}
+
+// The answer of a call that returns a record.
+pub enum Returned {
+    Record(Matrix),
     Refused(Refusal),
 }
 

@@ -8,10 +8,9 @@ ghost use Rattle.answer.specs.Limits.{form-limit, frame-length};
 use answer::FORM_LIMIT;
 use answer::FRAME_LENGTH;
 use answer::Refusal;
+use answer::Returned;
 use compare::Compared;
 use compare::Which;
-use expand::Expanded;
-use frame::Framed;
 use frame::Stored;
 use lines::Next;
 use lines::Progress;
@@ -168,8 +167,8 @@ fn matrix_line(text: &[u8], output: &mut [u8], at: usize) -> usize
     ensures { λ r. ⌜ r ≤ at + room ⌝ }
 {
     match expand::string_to_matrix(text) {
-        Expanded::Record(m) => put_matrix(m, output, at),
-        Expanded::Refused(refusal) => report::put_refusal(refusal, output, at),
+        Returned::Record(m) => put_matrix(m, output, at),
+        Returned::Refused(refusal) => report::put_refusal(refusal, output, at),
     }
 }
 
@@ -194,8 +193,8 @@ fn frame_line(text: &[u8], output: &mut [u8], at: usize) -> usize
     ensures { λ r. ⌜ r ≤ at + room ⌝ }
 {
     match frame::read_frame(text) {
-        Framed::Record(m) => put_frame(m, output, at),
-        Framed::Refused(refusal) => report::put_refusal(refusal, output, at),
+        Returned::Record(m) => put_frame(m, output, at),
+        Returned::Refused(refusal) => report::put_refusal(refusal, output, at),
     }
 }
 

@@ -3,7 +3,6 @@
 use mathlib.Core.Path.{_≡_, refl}
 use mathlib.Core.List.{List}
 use Prim.Native.Nat.{ℕ}
-use native.Mathlib.Omega.{arith}
 use Rattle.matrix.specs.declared.Matrix.{Matrix}
 use Rattle.matrix.specs.Matrix.{Same}
 use Rattle.matrix.specs.Letter.{matrix-of}
@@ -12,7 +11,7 @@ use Rattle.answer.specs.declared.Figures.{Figures}
 use Rattle.answer.specs.declared.Refusal.{Refusal}
 use Rattle.answer.specs.Refusal.{Said, refusal}
 use Rattle.answer.specs.Written.{Put-form}
-use Rattle.answer.proofs.Told.{refusal-told}
+use Rattle.answer.proofs.Told.{refusal-told, accepted-is-not-refused}
 use Rattle.letter.proofs.String.{string-refused-once, string-refused-or-accepted}
 use Rattle.accept.proofs.Judged as Judged
 use Rattle.frame.specs.Calls.{Accepted-frame, Refused-frame, refused-frame, accepted-frame}
@@ -42,9 +41,7 @@ frame-refused-once : {text : List ℕ} {r s : Refusal} → Refused-frame text r 
 frame-refused-once {r = r} {s = s} a b = refusal-told r s (frame-read-once (refused-frame a) (refused-frame b))
 
 frame-refused-or-accepted : {text : List ℕ} {m : Matrix} {r : Refusal} → Refused-frame text r → Accepted-frame text m → ⊥
-frame-refused-or-accepted a b =
-    let read = frame-read-once (refused-frame a) (accepted-frame b) in
-    let z : _≡_ {A = ℕ} 0 1 = cc in omega arith
+frame-refused-or-accepted a b = accepted-is-not-refused (frame-read-once (accepted-frame b) (refused-frame a))
 
 frame-accepted-once : {text : List ℕ} {m n : Matrix} → Accepted-frame text m → Accepted-frame text n → m ≡ n
 frame-accepted-once a b = let read = frame-read-once (accepted-frame a) (accepted-frame b) in cc

@@ -11,9 +11,11 @@ use Rattle.matrix.specs.Letter.{matrix-of}
 use Rattle.matrix.proofs.Same.{same-sym, same-trans, same-of-equal}
 use Rattle.form.specs.Form.{Form}
 use Rattle.answer.specs.declared.Figures.{Figures}
+use Rattle.answer.specs.declared.Written.{Written}
 use Rattle.answer.specs.Refusal.{Said, refused, refusal}
-use Rattle.answer.specs.Written.{Put-form, no-room}
+use Rattle.answer.specs.Written.{said, Put-form, no-room}
 use Rattle.answer.proofs.Put.{put-refused, put-once}
+use Rattle.answer.proofs.Told.{written-told}
 use Rattle.demands.specs.Input.{Input, Promised}
 use Rattle.demands.specs.Answer.{By-table, for-the-input, for-want-of-room}
 use Rattle.demands.proofs.Cases.{Case, of-input, of-form, promised-case, refused-once, refused-or-accepted, accepted-once}
@@ -35,6 +37,11 @@ cases-once {before = before} (of-form {f = f} {answer = answer} {after = after} 
 pub answers-once : {i : Input} {before after after' : List ℕ} {answer answer' : Said Figures} →
     Promised i before answer after → Promised i before answer' after' → (answer ≡ answer') × (after ≡ after')
 answers-once p q = cases-once (promised-case p) (promised-case q)
+
+-- so the value that is returned is one
+pub returns-once : {i : Input} {before after after' : List ℕ} (a b : Written) →
+    Promised i before (said a) after → Promised i before (said b) after' → (a ≡ b) × (after ≡ after')
+returns-once a b p q = let once = answers-once p q in (written-told a b (once .0), once .1)
 
 case-refused : {i : Input} {before after : List ℕ} {n p : ℕ} → Case i before (refused n p) after → after ≡ before
 case-refused (of-input r) = refl

@@ -24,6 +24,7 @@ use Rattle.form.proofs.Worked.{worked-cases}
 use Rattle.answer.specs.declared.Figures.{Figures}
 use Rattle.answer.specs.Refusal.{Said, accepted, refused}
 use Rattle.answer.specs.Written.{figures-of, put, room}
+use Rattle.answer.proofs.Told.{accepted-is-not-refused}
 use Rattle.letter.specs.String.{Accepted-string}
 use Rattle.accept.specs.Accept.{Accepted-record, coefficients, in-limit}
 use Rattle.squeeze.specs.String.{squeezed}
@@ -100,10 +101,7 @@ above-zero : 0 < gate-H .exponent
 unfolding gate-H
 above-zero = suc-le-suc zero-le
 
--- numbers and answers that differ
-accepted-is-not-refused : {x : Figures} {n p : ℕ} → accepted x ≡ refused n p → ⊥
-accepted-is-not-refused e = let z : _≡_ {A = ℕ} 0 1 = cc in omega arith
-
+-- lengths and bytes that differ
 same-length : {x y : Figures} → accepted x ≡ accepted y → x .length ≡ y .length
 same-length {x} {y} e = let figures : x ≡ y = cc in ap (λ (z : Figures). z .length) figures
 

@@ -10,11 +10,11 @@ use Rattle.matrix.specs.Letter.{matrix-of}
 use Rattle.matrix.proofs.Least.{least-unique}
 use Rattle.answer.specs.Limits.{exponent-limit}
 use Rattle.answer.specs.Refusal.{Said, accepted, refusal}
-use Rattle.answer.proofs.Told.{refusal-told}
+use Rattle.answer.specs.declared.Returned.{Returned}
+use Rattle.answer.specs.Returned.{said}
+use Rattle.answer.proofs.Told.{returned-told}
 use Rattle.letter.proofs.String.{string-refused-once, string-refused-or-accepted}
-use Rattle.expand.specs.declared.Expanded.{Expanded}
-use Rattle.expand.specs.declared.Expanded.the-variants.{Record, Refused}
-use Rattle.expand.specs.Expand.{said, String-to-matrix, refused-string, high-least-exponent, least-record}
+use Rattle.expand.specs.Expand.{String-to-matrix, refused-string, high-least-exponent, least-record}
 
 -- one exponent is not both above the limit and within it
 high-or-low : (text : List ℕ) {m n : Matrix} → Least-record (matrix-of text) m → exponent-limit < m .exponent →
@@ -35,13 +35,6 @@ expanded-said-once (least-record s l h) (refused-string r) = absurd (string-refu
 expanded-said-once {text} (least-record s l h) (high-least-exponent t k g) = absurd (high-or-low text k g l h)
 expanded-said-once {text} (least-record {m} s l h) (least-record {m = n} t k g) = ap accepted (least-unique (matrix-of text) m n l k)
 
--- no two cases of the enum are said alike
-pub said-once : (a b : Expanded) → said a ≡ said b → a ≡ b
-said-once (Record m) (Record n) same = let records : m ≡ n = cc in ap Record records
-said-once (Record m) (Refused s) same = absurd (let z : _≡_ {A = ℕ} 0 1 = cc in omega arith)
-said-once (Refused r) (Record n) same = absurd (let z : _≡_ {A = ℕ} 0 1 = cc in omega arith)
-said-once (Refused r) (Refused s) same = ap Refused (refusal-told r s same)
-
 -- so the value that is returned is one
-pub expanded-once : (text : List ℕ) (a b : Expanded) → String-to-matrix text (said a) → String-to-matrix text (said b) → a ≡ b
-expanded-once text a b fits fits′ = said-once a b (expanded-said-once fits fits′)
+pub expanded-once : (text : List ℕ) (a b : Returned) → String-to-matrix text (said a) → String-to-matrix text (said b) → a ≡ b
+expanded-once text a b fits fits′ = returned-told a b (expanded-said-once fits fits′)

@@ -9,13 +9,6 @@ use Rattle.answer.specs.declared.Refusal.the-variants.{HighLeastExponent}
 use Rattle.answer.specs.Limits.{exponent-limit}
 use Rattle.answer.specs.Refusal.{Said, accepted, refusal}
 use Rattle.letter.specs.String.{Accepted-string, Refused-string}
-use Rattle.expand.specs.declared.Expanded.{Expanded}
-use Rattle.expand.specs.declared.Expanded.the-variants.{Record, Refused}
-
--- the paper's number and values for each case of the enum
-abbrev pub said : Expanded → Said Matrix
-said (Record m) = accepted m
-said (Refused r) = refusal r
 
 -- "String to matrix returns the least record", or refuses 8 where its exponent is above the limit.
 pub data String-to-matrix (text : List ℕ) : Said Matrix → Type 0 where

@@ -2,6 +2,7 @@
 use answer::EXPONENT_LIMIT;
 use answer::FORM_LIMIT;
 use answer::Refusal;
+use answer::Returned;
 use answer::Written;
 use matrix::Matrix;
 use matrix::Row;
@@ -14,16 +15,12 @@ ghost use Rattle.matrix.specs.Matrix.{matrix, identity, times, Least-record};
 ghost use Rattle.matrix.specs.Letter.{gate, matrix-of};
 ghost use Rattle.form.specs.Form.{Form, Form-letter};
 ghost use Rattle.form.specs.Count.{t-count};
-ghost use Rattle.expand.specs.Expand.{said, String-to-matrix};
+ghost use Rattle.answer.specs.Returned.{said};
+ghost use Rattle.expand.specs.Expand.{String-to-matrix};
 ghost use Rattle.expand.specs.Room.{t-limit, Roomy, Reducible, Reduces, Lowered};
 
 // The T's that the form of a record within the exponent limit holds at most.
 const T_LIMIT: usize = 2 * (EXPONENT_LIMIT as usize) + 1;
-
-pub enum Expanded {
-    Record(Matrix),
-    Refused(Refusal),
-}
 
 // The matrix of the empty string.
 fn identity() -> Matrix
@@ -155,7 +152,7 @@ fn least(m: Matrix) -> Matrix
 }
 
 // A form with few T's, multiplied out and reduced.
-fn of_form(form: &[u8]) -> Expanded
+fn of_form(form: &[u8]) -> Returned
     requires { ⌜ Form (now form) ⌝ }
     requires { ⌜ t-count (now form) ≤ t-limit ⌝ }
     ensures { λ r. ⌜ String-to-matrix (now (form .entry)) (said r) ⌝ }
@@ -163,9 +160,9 @@ fn of_form(form: &[u8]) -> Expanded
     let product = product_of(form);
     let record = least(product);
     if EXPONENT_LIMIT < record.exponent {
-        return Expanded::Refused(Refusal::HighLeastExponent);
+        return Returned::Refused(Refusal::HighLeastExponent);
     }
-    Expanded::Record(record)
+    Returned::Record(record)
 }
 
 // Room for the form of any string within the limit.
@@ -174,7 +171,7 @@ fn room() -> [u8; FORM_LIMIT] {
 }
 
 // String to matrix. A form with many T's has a least exponent above the limit, which is known without its matrix.
-pub fn string_to_matrix(text: &[u8]) -> Expanded
+pub fn string_to_matrix(text: &[u8]) -> Returned
     ensures { λ r. ⌜ String-to-matrix (now (text .entry)) (said r) ⌝ }
 {
     let mut form = room();
@@ -182,11 +179,11 @@ pub fn string_to_matrix(text: &[u8]) -> Expanded
     match written {
         Written::Form(figures) => {
             if T_LIMIT < figures.tcount {
-                return Expanded::Refused(Refusal::HighLeastExponent);
+                return Returned::Refused(Refusal::HighLeastExponent);
             }
             let length = figures.length;
             of_form(&form[..length])
         }
-        Written::Refused(refusal) => Expanded::Refused(refusal),
+        Written::Refused(refusal) => Returned::Refused(refusal),
     }
 }

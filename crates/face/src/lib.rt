@@ -1,24 +1,24 @@
 // The calls for C and Rust: numbers and lent slices in, one answer word out.
 use answer::Figures;
 use answer::Refusal;
+use answer::Returned;
 use answer::Written;
 use compare::Compared;
 use compare::Which;
-use expand::Expanded;
-use frame::Framed;
 use frame::Stored;
 use matrix::Matrix;
 use reader::Read;
 use reader::Reading;
 ghost use mathlib.Core.Path.{_≡_};
 ghost use Rattle.answer.specs.Refusal.{number, place};
+ghost use Rattle.answer.specs.Returned.{said as said-returned};
 ghost use Rattle.answer.specs.Written.{said};
 ghost use Rattle.accept.specs.Accept.{coefficients};
 ghost use Rattle.reader.specs.Reader.{said as said-read};
 ghost use Rattle.compare.specs.Compare.{verdict};
 ghost use Rattle.frame.specs.Calls.{said-stored};
 ghost use Rattle.face.specs.Word.{refusal-word, figures-word, reading-word, record-word, frame-word, verdict-word, which-number, packed, Legible, Legible-refusal, Legible-figures, Legible-reading, Legible-record, Legible-verdict};
-ghost use Rattle.face.specs.Calls.{String-to-form-word, Matrix-to-form-word, Frame-to-form-word, Form-reader-word, Comparison-word, String-to-matrix-word, Frame-to-matrix-word, Matrix-to-frame-word};
+ghost use Rattle.face.specs.Calls.{left-in, String-to-form-word, Matrix-to-form-word, Frame-to-form-word, Form-reader-word, Comparison-word, String-to-matrix-word, Frame-to-matrix-word, Matrix-to-frame-word};
 
 // The bits of an answer word at which its values begin.
 const BIT_8: u64 = 256;
@@ -125,6 +125,18 @@ fn put_record(m: Matrix, lent: &mut [i64; 16]) -> u64
     BIT_8 * (m.exponent as u64)
 }
 
+// The word of a call that returns a record, which is left in a lent array; a refusal leaves the array.
+fn returned_word(returned: Returned, lent: &mut [i64; 16]) -> u64
+    requires { ⌜ Legible Legible-record (said-returned returned) ⌝ }
+    ensures { λ r. ⌜ r ≡ packed record-word (said-returned returned) ⌝ }
+    ensures { λ _. ⌜ now (lent .exit) ≡ left-in (said-returned returned) (now (lent .entry)) ⌝ }
+{
+    match returned {
+        Returned::Record(m) => put_record(m, lent),
+        Returned::Refused(refusal) => refusal_word(refusal),
+    }
+}
+
 #[no_mangle]
 pub extern "C" fn chorvadhim_string_to_form(text: &[u8], buffer: &mut [u8]) -> u64
     ensures { λ r. ⌜ String-to-form-word (now (text .entry)) (now (buffer .entry)) r (now (buffer .exit)) ⌝ }
@@ -169,22 +181,14 @@ pub extern "C" fn chorvadhim_compare(first: &[u8], second: &[u8]) -> u64
 pub extern "C" fn chorvadhim_string_to_matrix(text: &[u8], coefficients: &mut [i64; 16]) -> u64
     ensures { λ r. ⌜ String-to-matrix-word (now (text .entry)) (now (coefficients .entry)) r (now (coefficients .exit)) ⌝ }
 {
-    let expanded = expand::string_to_matrix(text);
-    match expanded {
-        Expanded::Record(m) => put_record(m, coefficients),
-        Expanded::Refused(refusal) => refusal_word(refusal),
-    }
+    returned_word(expand::string_to_matrix(text), coefficients)
 }
 
 #[no_mangle]
 pub extern "C" fn chorvadhim_read_frame(text: &[u8], coefficients: &mut [i64; 16]) -> u64
     ensures { λ r. ⌜ Frame-to-matrix-word (now (text .entry)) (now (coefficients .entry)) r (now (coefficients .exit)) ⌝ }
 {
-    let framed = frame::read_frame(text);
-    match framed {
-        Framed::Record(m) => put_record(m, coefficients),
-        Framed::Refused(refusal) => refusal_word(refusal),
-    }
+    returned_word(frame::read_frame(text), coefficients)
 }
 
 #[no_mangle]

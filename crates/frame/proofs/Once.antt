@@ -8,11 +8,16 @@ use Rattle.whole.proofs.List.{passes-or-fails, fails-once}
 use Rattle.matrix.specs.declared.Matrix.{Matrix}
 use Rattle.answer.specs.declared.Refusal.{Refusal}
 use Rattle.answer.specs.declared.Refusal.the-variants.{BadFrame}
+use Rattle.answer.specs.declared.Returned.{Returned}
 use Rattle.answer.specs.Refusal.{Said, accepted, refusal}
+use Rattle.answer.specs.Returned.{said}
+use Rattle.answer.proofs.Told.{refusal-told, accepted-is-not-refused, returned-told}
 use Rattle.accept.specs.Accept.{Refused-record}
 use Rattle.accept.proofs.Judged.{refused-once, accepted-not-refused}
+use Rattle.frame.specs.declared.Stored.{Stored}
+use Rattle.frame.specs.declared.Stored.the-variants.{Frame, Refused}
 use Rattle.frame.specs.Frame.{check-word, Spells}
-use Rattle.frame.specs.Calls.{Bad-frame, short, long, bad-digit, Refused-frame, bad-frame, bad-check-word, bad-record, Accepted-frame, Frame-to-matrix, refused-frame, accepted-frame, Matrix-to-frame, refused-record, no-room, framed}
+use Rattle.frame.specs.Calls.{said-stored, Bad-frame, short, long, bad-digit, Refused-frame, bad-frame, bad-check-word, bad-record, Accepted-frame, Frame-to-matrix, refused-frame, accepted-frame, Matrix-to-frame, refused-record, no-room, framed}
 use Rattle.frame.proofs.Spelled.{spells-length, spells-digits, spells-once}
 
 -- ---- refusal 9
@@ -65,6 +70,10 @@ frame-read-once (refused-frame r) (accepted-frame b) = absurd (accepted-frame-no
 frame-read-once (accepted-frame a) (refused-frame s) = absurd (accepted-frame-not-refused a s)
 frame-read-once (accepted-frame a) (accepted-frame b) = ap accepted (spells-once (a .spells) (b .spells) .0)
 
+-- so the value that is returned is one
+pub frame-returned-once : {text : List ℕ} (a b : Returned) → Frame-to-matrix text (said a) → Frame-to-matrix text (said b) → a ≡ b
+frame-returned-once a b p q = returned-told a b (frame-read-once p q)
+
 -- ---- matrix to frame
 -- two answers of the frame writer that fit its promise are equal, and so are the buffers
 pub frame-written-once :
@@ -79,3 +88,15 @@ frame-written-once (no-room a h) (framed b k) = absurd (omega arith)
 frame-written-once (framed a h) (refused-record q) = absurd (accepted-not-refused a q)
 frame-written-once (framed a h) (no-room b k) = absurd (omega arith)
 frame-written-once (framed a h) (framed b k) = (refl, refl)
+
+-- no two cases of the enum are said alike, so the value that is returned is one
+stored-told : (a b : Stored) → said-stored a ≡ said-stored b → a ≡ b
+stored-told Frame Frame same = refl
+stored-told Frame (Refused s) same = absurd (accepted-is-not-refused same)
+stored-told (Refused r) Frame same = absurd (accepted-is-not-refused (sym same))
+stored-told (Refused r) (Refused s) same = ap Refused (refusal-told r s same)
+
+pub frame-stored-once :
+    {m : Matrix} {before s t : List ℕ} (a b : Stored) → Matrix-to-frame m before (said-stored a) s → Matrix-to-frame m before (said-stored b) t →
+    (a ≡ b) × (s ≡ t)
+frame-stored-once a b p q = let once = frame-written-once p q in (stored-told a b (once .0), once .1)

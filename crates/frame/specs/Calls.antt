@@ -10,21 +10,15 @@ use Rattle.answer.specs.Limits.{frame-length}
 use Rattle.answer.specs.Refusal.{Said, accepted, refusal}
 use Rattle.answer.specs.Written.{put}
 use Rattle.accept.specs.Accept.{Accepted-record, Refused-record}
-use Rattle.frame.specs.declared.Framed.{Framed}
-use Rattle.frame.specs.declared.Framed.the-variants.{Record, Refused}
 use Rattle.frame.specs.declared.Stored.{Stored}
-use Rattle.frame.specs.declared.Stored.the-variants.{Frame, Refused as Unstored}
+use Rattle.frame.specs.declared.Stored.the-variants.{Frame, Refused}
 use Rattle.frame.specs.Digit.{First-bad-digit}
 use Rattle.frame.specs.Frame.{Spells, check-word, frame-text}
 
--- the paper's number and values for each case of the enums; the frame writer's answer has no values
-abbrev pub said-framed : Framed → Said Matrix
-said-framed (Record m) = accepted m
-said-framed (Refused r) = refusal r
-
+-- the paper's number for each case of the enum; the frame writer's answer has no values
 abbrev pub said-stored : Stored → Said (Unit {0})
 said-stored Frame = accepted tt
-said-stored (Unstored r) = refusal r
+said-stored (Refused r) = refusal r
 
 -- refusal 9: "length if short, 138 if long, else first bad digit"
 pub data Bad-frame (text : List ℕ) : ℕ → Type 0 where

@@ -3,6 +3,7 @@ use accept::Judgement;
 use answer::CHECK_WORD_PLACE;
 use answer::FRAME_LENGTH;
 use answer::Refusal;
+use answer::Returned;
 use matrix::Matrix;
 ghost use Prim.Native.Nat.{_<_, _≤_};
 ghost use mathlib.Core.Bool.{true};
@@ -14,14 +15,9 @@ ghost use Rattle.answer.specs.Written.{put};
 ghost use Rattle.accept.specs.Accept.{coefficients};
 ghost use Rattle.frame.specs.Digit.{digit, is-digit, digits, Digits};
 ghost use Rattle.frame.specs.Frame.{word, words, words-text, check-word, frame-text, In-word, In-words};
-ghost use Rattle.frame.specs.Calls.{said-framed, said-stored, Frame-to-matrix, Matrix-to-frame};
+ghost use Rattle.answer.specs.Returned.{said};
+ghost use Rattle.frame.specs.Calls.{said-stored, Frame-to-matrix, Matrix-to-frame};
 ghost use Rattle.frame.specs.Parts.{Finds, Spelled, Coefficient, Coefficients, Record-text};
-
-// What the frame reader answers.
-pub enum Framed {
-    Record(Matrix),
-    Refused(Refusal),
-}
 
 // What the frame writer answers.
 pub enum Stored {
@@ -218,36 +214,36 @@ fn read_record(text: &[u8]) -> Matrix
 }
 
 // A frame of 138 digits: its check word, and then its record.
-fn read_digits(text: &[u8]) -> Framed
+fn read_digits(text: &[u8]) -> Returned
     requires { ⌜ Digits (now text) ⌝ }
     requires { ⌜ length (now text) ≡ frame-length ⌝ }
-    ensures { λ r. ⌜ Frame-to-matrix (now (text .entry)) (said-framed r) ⌝ }
+    ensures { λ r. ⌜ Frame-to-matrix (now (text .entry)) (said r) ⌝ }
 {
     let m = read_record(&text[..CHECK_WORD_PLACE]);
     let check = number(&text[CHECK_WORD_PLACE..]);
     if check != check_word(m) {
-        return Framed::Refused(Refusal::BadCheckWord);
+        return Returned::Refused(Refusal::BadCheckWord);
     }
     match accept::judge(m) {
-        Judgement::Accepted => Framed::Record(m),
-        Judgement::Refused(refusal) => Framed::Refused(refusal),
+        Judgement::Accepted => Returned::Record(m),
+        Judgement::Refused(refusal) => Returned::Refused(refusal),
     }
 }
 
 // Frame to matrix.
-pub fn read_frame(text: &[u8]) -> Framed
-    ensures { λ r. ⌜ Frame-to-matrix (now (text .entry)) (said-framed r) ⌝ }
+pub fn read_frame(text: &[u8]) -> Returned
+    ensures { λ r. ⌜ Frame-to-matrix (now (text .entry)) (said r) ⌝ }
 {
     if text.len() < FRAME_LENGTH {
-        return Framed::Refused(Refusal::BadFrame { place: text.len() });
+        return Returned::Refused(Refusal::BadFrame { place: text.len() });
     }
     if FRAME_LENGTH < text.len() {
-        return Framed::Refused(Refusal::BadFrame {
+        return Returned::Refused(Refusal::BadFrame {
             place: FRAME_LENGTH,
         });
     }
     match first_bad_digit(text) {
-        Found::Bad(place) => Framed::Refused(Refusal::BadFrame { place }),
+        Found::Bad(place) => Returned::Refused(Refusal::BadFrame { place }),
         Found::Nothing => read_digits(text),
     }
 }

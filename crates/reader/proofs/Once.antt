@@ -4,7 +4,7 @@ use Prim.Native.Nat.{ℕ, _≤_}
 use native.Mathlib.Omega.{arith}
 use mathlib.Core.List.{List}
 use mathlib.Core.Logic.{_↔_}
-use mathlib.Core.Path.{_≡_, refl, ap}
+use mathlib.Core.Path.{_≡_, refl, sym, ap}
 use lib.ListN as L
 use Rattle.whole.proofs.List.{passes-or-fails, fails-once}
 use Rattle.form.specs.Form.{Form, Parts}
@@ -16,7 +16,7 @@ use Rattle.reader.specs.declared.Reading.{Reading}
 use Rattle.reader.specs.declared.Read.{Read}
 use Rattle.reader.specs.declared.Read.the-variants.{Form as a-Form, Refused}
 use Rattle.reader.specs.Reader.{said, reading-of, Longest-prefix, Form-reader, too-long, bad-letter, not-form, form}
-use Rattle.answer.proofs.Told.{refusal-told}
+use Rattle.answer.proofs.Told.{refusal-told, accepted-is-not-refused}
 
 -- the longest prefix has one length
 pub longest-prefix-once : {text : List ℕ} {m n : ℕ} → Longest-prefix text m → Longest-prefix text n → m ≡ n
@@ -48,15 +48,15 @@ reader-answers-once (form h f) (not-form k l n q) = absurd (n f)
 reader-answers-once (form h f) (form k g) = ap accepted (form-reads-once f g)
 
 -- no two cases of the enum are said alike
-pub said-once : (r s : Read) → said r ≡ said s → r ≡ s
-said-once (a-Form x) (a-Form y) same = let readings : x ≡ y = cc in ap a-Form readings
-said-once (a-Form x) (Refused s) same = absurd (let z : _≡_ {A = ℕ} 0 1 = cc in omega arith)
-said-once (Refused r) (a-Form y) same = absurd (let z : _≡_ {A = ℕ} 0 1 = cc in omega arith)
-said-once (Refused r) (Refused s) same = ap Refused (refusal-told r s same)
+read-told : (r s : Read) → said r ≡ said s → r ≡ s
+read-told (a-Form x) (a-Form y) same = let readings : x ≡ y = cc in ap a-Form readings
+read-told (a-Form x) (Refused s) same = absurd (accepted-is-not-refused same)
+read-told (Refused r) (a-Form y) same = absurd (accepted-is-not-refused (sym same))
+read-told (Refused r) (Refused s) same = ap Refused (refusal-told r s same)
 
 -- so the value that is returned is one
 pub reader-returns-once : (text : List ℕ) (r s : Read) → Form-reader text (said r) → Form-reader text (said s) → r ≡ s
-reader-returns-once text r s fits fits′ = said-once r s (reader-answers-once fits fits′)
+reader-returns-once text r s fits fits′ = read-told r s (reader-answers-once fits fits′)
 
 -- what is accepted is a form within the limit, read as it is
 pub record Accepted (text : List ℕ) (reading : Reading) : Type 0 where

@@ -1,6 +1,6 @@
 // Frame to form: the record of a frame, and its form.
+use answer::Returned;
 use answer::Written;
-use frame::Framed;
 ghost use Rattle.answer.specs.Written.{said};
 ghost use Rattle.unframe.specs.Unframe.{Frame-to-form};
 
@@ -8,7 +8,7 @@ pub fn frame_to_form(text: &[u8], buffer: &mut [u8]) -> Written
     ensures { λ r. ⌜ Frame-to-form (now (text .entry)) (now (buffer .entry)) (said r) (now (buffer .exit)) ⌝ }
 {
     match frame::read_frame(text) {
-        Framed::Refused(refusal) => Written::Refused(refusal),
-        Framed::Record(read) => gates::matrix_to_form(read, buffer),
+        Returned::Refused(refusal) => Written::Refused(refusal),
+        Returned::Record(read) => gates::matrix_to_form(read, buffer),
     }
 }

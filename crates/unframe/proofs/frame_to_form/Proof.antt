@@ -1,7 +1,7 @@
 -- `unframe::frame_to_form` meets its contract: what the frame reader says decides. Assumes nothing.
 use borrow.Author.Needs.{needs}
 use mathlib.Core.Path.{ap}
-use Rattle.frame.specs.Calls.{said-framed}
+use Rattle.answer.specs.Returned.{said}
 use Rattle.unframe.proofs.Record.{refused-too, squeezed-too}
 use Rattle.unframe.proofs.frame_to_form.Statement.{statement}
 use Rattle.unframe.proofs.frame_to_form.Tie as tie
@@ -19,7 +19,7 @@ matrix-to-form-requires : tie.Need-matrix-to-form-requires
 matrix-to-form-requires c κs = search needs
 
 returns : tie.Need-returns
-returns c = refused-too (c .before .refusal .given .0 .0) (ap said-framed (c .before .refusal .given .1)) (c .before .before .before .read-frame .ensures)
+returns c = refused-too (c .before .refusal .given .0 .0) (ap said (c .before .refusal .given .1)) (c .before .before .before .read-frame .ensures)
 
 same-length : tie.Need-same-length
 same-length c = search needs
@@ -28,7 +28,7 @@ returns-2 : tie.Need-returns-2
 returns-2 c =
     let called = c .before .before in
     let known = called .before .before .before in
-    squeezed-too (ap said-framed (known .read .given .1)) (known .before .before .read-frame .ensures) (called .matrix-to-form .ensures)
+    squeezed-too (ap said (known .read .given .1)) (known .before .before .read-frame .ensures) (called .matrix-to-form .ensures)
 
 pub frame-to-form-spec : {M : Type 1} → statement M
 frame-to-form-spec =
