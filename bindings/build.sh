@@ -3,13 +3,14 @@
 out=target/bindings
 mkdir -p "$out"
 
-# Debian's packages for Arm, by name: a compiler of each language for x86-64, its libraries, and the emulator.
+# Debian's packages for Arm, by name: a compiler of each language for x86-64, its libraries, and the emulator. What apt says
+# goes to standard error: standard output is the program's alone.
 install_for_arm() {
     local packages="rustc libstd-rust-dev:amd64 libc6:amd64 libc6-dev-amd64-cross gcc-x86-64-linux-gnu qemu-user-static"
     if dpkg -s $packages >/dev/null 2>&1; then return; fi
     dpkg --add-architecture amd64
-    apt-get update
-    apt-get install -y --no-install-recommends $packages
+    apt-get update >&2
+    DEBIAN_FRONTEND=noninteractive apt-get install -y --no-install-recommends $packages >&2
 }
 
 case "$(uname -m)" in
