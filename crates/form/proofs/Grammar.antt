@@ -19,9 +19,6 @@ use Rattle.form.proofs.Count.{t-count-append, t-count-tail, t-count-syl
 abbrev pub tail-number : ℕ → ℕ → ℕ → ℕ → ℕ
 tail-number h b c a = 64 * h + 32 * b + 8 * c + a
 
-pub tail-number-in-tails : {h b c a : ℕ} → h < 3 → b < 2 → c < 4 → a < 8 → tail-number h b c a < tails
-tail-number-in-tails h3 b2 c4 a8 = omega arith
-
 -- a number's four fields
 pub tail-fields :
     (h b c a : ℕ) → b < 2 → c < 4 → a < 8 →

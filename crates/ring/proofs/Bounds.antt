@@ -149,9 +149,6 @@ module _ {x y : ℤ} (h : Bounded (2 ^ 61) x) (k : Bounded (2 ^ 61) y) where
   pub sum-fits : SFits w64 (stored x +ℤ stored y)
   sum-fits = fits (known h ⊞ known k) (lit< tt, lit< tt, lit< tt)
 
-  pub sum-value : stored x +ℤ stored y ≡ x +ℤ y
-  sum-value = exact (known h ⊞ known k) (lit< tt, lit< tt, lit< tt)
-
   pub sum-exact : stored (stored x +ℤ stored y) ≡ x +ℤ y
   sum-exact = exact-stored (known h ⊞ known k) (lit< tt, lit< tt, lit< tt)
 

@@ -1,5 +1,5 @@
 -- Integers modulo two: oddness is a map of rings onto the two bits, so an equation between expressions may be read modulo two.
--- An even integer is twice its half, and an odd one is one more than that. Assumes nothing.
+-- An even integer is twice its half. Assumes nothing.
 use mathlib.Core.Path.{_≡_, refl, sym, _∙_, ap, ap₂}
 use mathlib.Core.Bool.{Bool, true, false, not, _&&_, true≢false, false≢true}
 use mathlib.Core.List.{List, map}
@@ -7,7 +7,7 @@ use mathlib.Core.Logic.{_⊎_, inl, inr}
 use Prim.Native.Nat.{ℕ, zero, suc, _+_, _/_, _%_, _<_}
 use native.Mathlib.Omega.{arith}
 use lib.Dec.{eqb}
-use lib.IntN.{ℤ, pos, negsuc, sucℤ, predℤ, _+ℤ_, _*ℤ_, negℤ, +ℤ-idl, +ℤ-one, sucℤ-+ℤ, predℤ-+ℤ, sucℤ-*ℤ, predℤ-*ℤ, zero-*ℤ, suc-pred}
+use lib.IntN.{ℤ, pos, negsuc, sucℤ, predℤ, _+ℤ_, _*ℤ_, negℤ, +ℤ-idl, sucℤ-+ℤ, predℤ-+ℤ, sucℤ-*ℤ, predℤ-*ℤ, zero-*ℤ, suc-pred}
 use Rattle.whole.proofs.Ring.{Ring}
 use Rattle.whole.proofs.Whole.{whole, up-and-down}
 use Rattle.whole.proofs.Solver.{Expr, value}
@@ -182,10 +182,6 @@ odd-equation values left right e = sym (odd-value values left) ∙ ap odd e ∙ 
 pub odd-double : (z : ℤ) → odd (z +ℤ z) ≡ false
 odd-double z = odd-plus z z ∙ differ-same (odd z)
 
--- One more than a double is odd
-pub odd-double-one : (z : ℤ) → odd (z +ℤ z +ℤ pos 1) ≡ true
-odd-double-one z = odd-plus (z +ℤ z) (pos 1) ∙ ap (λ x. differ x true) (odd-double z)
-
 -- Half of an integer, rounded down
 abbrev pub half : ℤ → ℤ
 half (pos n) = pos (n / 2)
@@ -215,11 +211,3 @@ not-known a b e = sym (not-not a) ∙ ap not e
 pub even-half : (z : ℤ) → odd z ≡ false → z ≡ half z +ℤ half z
 even-half (pos n) e = let r : n % 2 ≡ 0 = even-remainder n e in ap pos (omega arith)
 even-half (negsuc n) e = let r : n % 2 ≡ 1 = odd-remainder n (not-known (odd-natural n) false e) in ap negsuc (omega arith)
-
--- An odd integer is one more than twice its half
-pub odd-half : (z : ℤ) → odd z ≡ true → z ≡ half z +ℤ half z +ℤ pos 1
-odd-half (pos n) e = let r : n % 2 ≡ 1 = odd-remainder n e in ap pos (omega arith)
-odd-half (negsuc n) e =
-    let r : n % 2 ≡ 0 = even-remainder n (not-known (odd-natural n) true e) in
-    let s : n ≡ n / 2 + n / 2 = omega arith in
-    ap negsuc s ∙ sym (+ℤ-one (negsuc (suc (n / 2 + n / 2))))

@@ -82,18 +82,6 @@ module _ (R : Ring) where
   pub none-times : (a : Carrier) → times none a ≡ none
   none-times a = times-comm none a ∙ times-none a
 
-  -- Minus nothing is nothing
-  pub negate-none : negate none ≡ none
-  negate-none = sym (negate-unique none none (plus-none none))
-
-  -- Minus minus a is a
-  pub negate-negate : (a : Carrier) → negate (negate a) ≡ a
-  negate-negate a = sym (negate-unique (negate a) a (plus-comm (negate a) a ∙ plus-negate a))
-
-  -- Minus a sum is the sum of the two negated
-  pub negate-plus : (a b : Carrier) → negate (plus a b) ≡ plus (negate a) (negate b)
-  negate-plus a b = sym (negate-unique (plus a b) (plus (negate a) (negate b)) (plus-exchange a b (negate a) (negate b) ∙ ap₂ plus (plus-negate a) (plus-negate b) ∙ plus-none none))
-
   -- A sign moves out of the second factor
   pub times-negate : (a b : Carrier) → times a (negate b) ≡ negate (times a b)
   times-negate a b = negate-unique (times a b) (times a (negate b)) (sym (times-plus a b (negate b)) ∙ ap (times a) (plus-negate b) ∙ times-none a)
