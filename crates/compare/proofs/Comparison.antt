@@ -60,8 +60,8 @@ verdict-known (Refused which r) (Refused which′ s) e =
     ap₂ Refused strings (refusal-told {A = Verdict} r s (ap₂ refused-said numbers places))
 
 -- so the value that is returned is one
-pub answers-once : (a b : List ℕ) (r s : Compared) → Comparison a b (verdict r) → Comparison a b (verdict s) → r ≡ s
-answers-once a b r s fits fits′ = verdict-known r s (compared-once fits fits′)
+pub compared-returns-once : (a b : List ℕ) (r s : Compared) → Comparison a b (verdict r) → Comparison a b (verdict s) → r ≡ s
+compared-returns-once a b r s fits fits′ = verdict-known r s (compared-once fits fits′)
 
 -- ---- accepted strings
 related-of : {a b : List ℕ} {v : Verdict} → Accepted-string a → Accepted-string b → Comparison a b v → Related a b v
