@@ -8,7 +8,7 @@ use mathlib.Core.List.{List, _++_}
 use mathlib.Core.Path.{_≡_, refl, ap, subst}
 use lib.ListN.{length, take, drop, length-append, length-take, length-drop}
 use Rattle.lines.specs.Line.{Takes}
-use Rattle.lines.specs.Progress.{Inside, Ready, last, Reads-on, moved, Turns}
+use Rattle.lines.specs.Progress.{Inside, fresh, put-up-to, Ready, last, Reads-on, moved, Turns}
 use Rattle.lines.specs.declared.Taken.{Taken}
 use Rattle.lines.specs.declared.Taken.the-variants.{Line, Open}
 use Rattle.lines.specs.declared.Progress.{Progress}
@@ -41,6 +41,15 @@ module _ {input input′ line line′ most most′ : ℕ} (i : input ≤ input�
   unfolding Ready
   ready-more (Next-line n p) h = (le-trans (h .0) l, inside-more (h .1))
   ready-more End h = tt
+
+-- at the start, and with other output to be written
+pub fresh-inside : {input most : ℕ} {p : Progress} → p ≡ fresh → Inside input most p
+fresh-inside e = rw e (record { taken = zero-le; read = zero-le; put = zero-le })
+
+pub put-inside :
+    {input input′ most most′ n : ℕ} {p q : Progress} → q ≡ put-up-to p n → Inside input most p → input ≤ input′ → n ≤ most′ →
+    Inside input′ most′ q
+put-inside e h i n = rw e (record { taken = h .taken; read = le-trans (h .read) i; put = n })
 
 -- no byte is no line
 pub last-none : (kept : ℕ) → kept ≡ 0 → last kept ≡ End

@@ -17,6 +17,14 @@ pub record Inside (input most : ℕ) (p : Progress) : Type 0 where
   pub read : p .end ≤ input
   pub put : p .put ≤ most
 
+-- nothing is read and nothing is to be written yet
+abbrev pub fresh : Progress
+fresh = record { at = 0; end = 0; put = 0; closed = false }
+
+-- the same with so many bytes of output still to be written
+abbrev pub put-up-to : Progress → ℕ → Progress
+put-up-to p n = record { at = p .at; end = p .end; put = n; closed = p .closed }
+
 -- a next line is within the line buffer
 unfoldable pub Ready : ℕ → ℕ → ℕ → Next → Type 0
 Ready input line most (Line length p) = (length ≤ line) × Inside input most p

@@ -5,7 +5,7 @@ ghost use lib.ListN.{length, take, drop};
 ghost use mathlib.Core.List.{_++_};
 ghost use Rattle.lines.specs.Put.{Put};
 ghost use Rattle.lines.specs.Line.{Holds, Takes};
-ghost use Rattle.lines.specs.Progress.{Inside, Ready, last, Reads-on, Turns};
+ghost use Rattle.lines.specs.Progress.{Inside, fresh, put-up-to, Ready, last, Reads-on, Turns};
 use libc::STDIN_FILENO;
 use libc::STDOUT_FILENO;
 
@@ -31,7 +31,7 @@ pub struct Progress {
 impl Progress {
     // Nothing is read and nothing is to be written yet.
     pub fn start() -> Self
-        ensures { λ r. ⌜ Inside 0 0 r ⌝ }
+        ensures { λ r. ⌜ r ≡ fresh ⌝ }
     {
         Self {
             at: 0,
@@ -43,8 +43,7 @@ impl Progress {
 
     // The same with so many bytes of output still to be written.
     pub fn with(mut self, put: usize) -> Self
-        requires { ⌜ self .at ≤ self .end ⌝ }
-        ensures { λ r. ⌜ Inside (self .end) put r ⌝ }
+        ensures { λ r. ⌜ r ≡ put-up-to self put ⌝ }
     {
         self.put = put;
         self

@@ -6,7 +6,7 @@ use mathlib.Core.Path.{_≡_}
 use lib.ListN.{length, length-take}
 use Rattle.lines.specs.Progress.{Inside}
 use Rattle.lines.proofs.Block.{put-within}
-use Rattle.lines.proofs.Within.{line-ready}
+use Rattle.lines.proofs.Within.{line-ready, fresh-inside, put-inside}
 use Rattle.frames.proofs.run.Statement.{statement}
 use Rattle.frames.proofs.run.Tie as tie
 
@@ -25,7 +25,7 @@ start-requires : tie.Need-start-requires Inv-loop μ-loop
 start-requires c κs = search needs
 
 loop-holds : tie.Need-loop-holds Inv-loop μ-loop
-loop-holds c = search needs
+loop-holds c = search (needs, fresh-inside)
 
 sub-turns : tie.Need-sub-turns Inv-loop μ-loop
 sub-turns c = search needs
@@ -64,7 +64,7 @@ answer-requires : tie.Need-answer-requires Inv-loop μ-loop
 answer-requires c κs = let ready = line-ready (c .before .before .before .before .before .before .before .before .before .before .next-line .ensures) (c .before .before .before .before .length .given .1) in omega arith
 
 with-requires : tie.Need-with-requires Inv-loop μ-loop
-with-requires c κs = (line-ready (c .before .before .before .before .before .before .before .before .before .before .before .before .before .before .before .next-line .ensures) (c .before .before .before .before .before .before .before .before .before .length .given .1)) .1 .taken
+with-requires c κs = search needs
 
 loop-less : tie.Need-loop-less Inv-loop μ-loop
 loop-less c = search needs
@@ -73,7 +73,7 @@ loop-again : tie.Need-loop-again Inv-loop μ-loop
 loop-again c =
     let ready = line-ready (c .before .before .before .before .before .before .before .before .before .before .before .before .before .before .before .before .next-line .ensures) (c .before .before .before .before .before .before .before .before .before .before .length .given .1) in
     let within = put-within (search needs) (c .before .before .before .before .before .answer .ensures .line) in
-    omega arith
+    (search needs, search needs, search needs, search needs, put-inside (c .with .ensures) (ready .1) (omega arith) (omega arith))
 
 same-length-5 : tie.Need-same-length-5 Inv-loop μ-loop
 same-length-5 c = search needs
