@@ -83,8 +83,8 @@ fn written(answer: Result<chorvadhim::Figures, chorvadhim::Refusal>) -> Answer<p
     answer.map(|figures| (figures.length, figures.t_count, figures.h_count)).map_err(refusal)
 }
 
-fn plain_read_frame(text: &[u8], coefficients: &mut [i64; 16]) -> Answer<u32> {
-    let (exponent, read) = plain::read_frame(text)?;
+fn plain_frame_to_matrix(text: &[u8], coefficients: &mut [i64; 16]) -> Answer<u32> {
+    let (exponent, read) = plain::frame_to_matrix(text)?;
     *coefficients = read;
     Ok(exponent)
 }
@@ -132,8 +132,8 @@ fn records(records: &[Record], rows: &mut Vec<Row>) {
         "k = 40".into(),
         records,
         room,
-        |(exponent, coefficients), buffer| chorvadhim::write_frame(*exponent, coefficients, buffer).map_err(refusal),
-        |(exponent, coefficients), buffer| plain::write_frame(*exponent, coefficients, buffer),
+        |(exponent, coefficients), buffer| chorvadhim::matrix_to_frame(*exponent, coefficients, buffer).map_err(refusal),
+        |(exponent, coefficients), buffer| plain::matrix_to_frame(*exponent, coefficients, buffer),
     ));
 }
 
@@ -143,8 +143,8 @@ fn frames(frames: &[Vec<u8>], rows: &mut Vec<Row>) {
         "k = 40".into(),
         frames,
         [0; 16],
-        |text, coefficients| chorvadhim::read_frame(text, coefficients).map_err(refusal),
-        |text, coefficients| plain_read_frame(text, coefficients),
+        |text, coefficients| chorvadhim::frame_to_matrix(text, coefficients).map_err(refusal),
+        |text, coefficients| plain_frame_to_matrix(text, coefficients),
     ));
     rows.push(measured(
         "frame to form",

@@ -1,6 +1,6 @@
 /* Chorvadhim: a gate string or an exact matrix in, the one Matsumoto-Amano normal form out.
  *
- * The calls of the static library libface.a, for x86-64. Numbers and lent memory go in, one 64-bit answer word comes out.
+ * The calls of the static library libchorvadhim.a, for x86-64. Numbers and lent memory go in, one 64-bit answer word comes out.
  *
  * What every call asks of its caller:
  *   - A pointer is not null, also where its length is 0, and points to as many bytes as its length says;
@@ -75,10 +75,10 @@ uint64_t chorvadhim_string_to_matrix(const uint8_t *text, size_t text_length, in
 
 /* Frame to matrix. Refusals in the order 9, 10, 4, 5, 6.
  * Accepted: the record as the frame has it, its exponent in bits 8 to 39 and its coefficients written. */
-uint64_t chorvadhim_read_frame(const uint8_t *text, size_t text_length, int64_t *coefficients);
+uint64_t chorvadhim_frame_to_matrix(const uint8_t *text, size_t text_length, int64_t *coefficients);
 
 /* Matrix to frame. Refusals in the order 4, 5, 6, 3. Accepted: the 138 digits stand in the buffer; the word is 0. */
-uint64_t chorvadhim_write_frame(uint32_t exponent, const int64_t *coefficients, uint8_t *buffer, size_t buffer_length);
+uint64_t chorvadhim_matrix_to_frame(uint32_t exponent, const int64_t *coefficients, uint8_t *buffer, size_t buffer_length);
 
 /* The parts of an answer word. */
 static inline unsigned chorvadhim_refusal(uint64_t word) { return (unsigned)(word & 0xff); }

@@ -9,7 +9,7 @@
 #[cfg(not(all(target_arch = "x86_64", target_pointer_width = "64")))]
 compile_error!("the static library is for x86-64");
 
-#[link(name = "face", kind = "static")]
+#[link(name = "chorvadhim", kind = "static")]
 extern "C" {
     fn chorvadhim_string_to_form(text: *const u8, text_length: usize, buffer: *mut u8, buffer_length: usize) -> u64;
     fn chorvadhim_matrix_to_form(exponent: u32, coefficients: *const i64, buffer: *mut u8, buffer_length: usize) -> u64;
@@ -17,8 +17,8 @@ extern "C" {
     fn chorvadhim_read_form(text: *const u8, text_length: usize) -> u64;
     fn chorvadhim_compare(first: *const u8, first_length: usize, second: *const u8, second_length: usize) -> u64;
     fn chorvadhim_string_to_matrix(text: *const u8, text_length: usize, coefficients: *mut i64) -> u64;
-    fn chorvadhim_read_frame(text: *const u8, text_length: usize, coefficients: *mut i64) -> u64;
-    fn chorvadhim_write_frame(exponent: u32, coefficients: *const i64, buffer: *mut u8, buffer_length: usize) -> u64;
+    fn chorvadhim_frame_to_matrix(text: *const u8, text_length: usize, coefficients: *mut i64) -> u64;
+    fn chorvadhim_matrix_to_frame(exponent: u32, coefficients: *const i64, buffer: *mut u8, buffer_length: usize) -> u64;
 }
 
 /// The coefficients of a matrix record: top left, top right, bottom left, bottom right, each a0, a1, a2, a3.
@@ -227,15 +227,15 @@ pub fn string_to_matrix(text: &[u8], coefficients: &mut Coefficients) -> Result<
 }
 
 /// Frame to matrix: the exponent of the record as the frame has it, whose coefficients are written.
-pub fn read_frame(text: &[u8], coefficients: &mut Coefficients) -> Result<u32, Refusal> {
+pub fn frame_to_matrix(text: &[u8], coefficients: &mut Coefficients) -> Result<u32, Refusal> {
     // Safety: as above.
-    exponent(unsafe { chorvadhim_read_frame(text.as_ptr(), text.len(), coefficients.as_mut_ptr()) })
+    exponent(unsafe { chorvadhim_frame_to_matrix(text.as_ptr(), text.len(), coefficients.as_mut_ptr()) })
 }
 
 /// Matrix to frame, 138 digits written at the start of the buffer.
-pub fn write_frame(exponent: u32, coefficients: &Coefficients, buffer: &mut [u8]) -> Result<(), Refusal> {
+pub fn matrix_to_frame(exponent: u32, coefficients: &Coefficients, buffer: &mut [u8]) -> Result<(), Refusal> {
     // Safety: as above.
-    let word = unsafe { chorvadhim_write_frame(exponent, coefficients.as_ptr(), buffer.as_mut_ptr(), buffer.len()) };
+    let word = unsafe { chorvadhim_matrix_to_frame(exponent, coefficients.as_ptr(), buffer.as_mut_ptr(), buffer.len()) };
     ending(accepted(word, 40)?, 8);
     Ok(())
 }

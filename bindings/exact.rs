@@ -410,7 +410,7 @@ pub fn form_of_matrix(tails: &Tails, exponent: u32, coefficients: &[i64; 16]) ->
 }
 
 pub fn form_of_frame(tails: &Tails, text: &[u8]) -> Answer<Vec<u8>> {
-    let (exponent, coefficients) = read_frame(text)?;
+    let (exponent, coefficients) = frame_to_matrix(text)?;
     form_of_matrix(tails, exponent, &coefficients)
 }
 
@@ -485,7 +485,7 @@ pub fn check_word(exponent: u32, words: &[u32; 16]) -> u32 {
     words.iter().fold(exponent, |sum, &word| sum.wrapping_add(word))
 }
 
-pub fn read_frame(text: &[u8]) -> Answer<(u32, [i64; 16])> {
+pub fn frame_to_matrix(text: &[u8]) -> Answer<(u32, [i64; 16])> {
     if text.len() != FRAME_LENGTH {
         return refused(9, text.len().min(FRAME_LENGTH));
     }
@@ -511,7 +511,7 @@ pub fn frame_text(exponent: u32, words: &[u32; 16], check: u32) -> Vec<u8> {
     format!("{exponent:02x}{coefficients}{check:08x}").into_bytes()
 }
 
-pub fn write_frame(exponent: u32, coefficients: &[i64; 16], buffer: &mut [u8]) -> Answer<()> {
+pub fn matrix_to_frame(exponent: u32, coefficients: &[i64; 16], buffer: &mut [u8]) -> Answer<()> {
     checked_record(exponent, coefficients)?;
     let words = coefficients.map(|coefficient| coefficient as i32 as u32);
     put(&frame_text(exponent, &words, check_word(exponent, &words)), buffer)

@@ -30,8 +30,8 @@ static CALLS: [Call; 8] = [
     Call { name: "read_form", refusals: &[2, 1, 7], inputs: 250_000, test: test_read_form },
     Call { name: "compare", refusals: &[2, 1], inputs: 150_000, test: test_compare },
     Call { name: "string_to_matrix", refusals: &[2, 1, 8], inputs: 150_000, test: test_string_to_matrix },
-    Call { name: "read_frame", refusals: &[9, 10, 4, 5, 6], inputs: 150_000, test: test_read_frame },
-    Call { name: "write_frame", refusals: &[4, 5, 6, 3], inputs: 150_000, test: test_write_frame },
+    Call { name: "frame_to_matrix", refusals: &[9, 10, 4, 5, 6], inputs: 150_000, test: test_frame_to_matrix },
+    Call { name: "matrix_to_frame", refusals: &[4, 5, 6, 3], inputs: 150_000, test: test_matrix_to_frame },
 ];
 
 /// The inputs of a call, counted by what came of them.
@@ -227,19 +227,19 @@ fn test_string_to_matrix(dice: &mut Dice, _: &Tails, tally: &mut Tally) {
     test_coefficients(dice, tally, &text, wanted, chorvadhim::string_to_matrix);
 }
 
-fn test_read_frame(dice: &mut Dice, _: &Tails, tally: &mut Tally) {
+fn test_frame_to_matrix(dice: &mut Dice, _: &Tails, tally: &mut Tally) {
     let text = inputs::frame(dice);
-    let wanted = exact::read_frame(&text);
-    test_coefficients(dice, tally, &text, wanted, chorvadhim::read_frame);
+    let wanted = exact::frame_to_matrix(&text);
+    test_coefficients(dice, tally, &text, wanted, chorvadhim::frame_to_matrix);
 }
 
-fn test_write_frame(dice: &mut Dice, _: &Tails, tally: &mut Tally) {
+fn test_matrix_to_frame(dice: &mut Dice, _: &Tails, tally: &mut Tally) {
     let record = inputs::record(dice);
     let room = room_about(dice, FRAME_LENGTH);
     let mut ours = Lent::new(dice, room);
     let mut wanted = ours.clone();
-    let answer = exact::write_frame(record.0, &record.1, wanted.room());
-    let call = |record: &inputs::Record| chorvadhim::write_frame(record.0, &record.1, ours.room()).map_err(refusal);
+    let answer = exact::matrix_to_frame(record.0, &record.1, wanted.room());
+    let call = |record: &inputs::Record| chorvadhim::matrix_to_frame(record.0, &record.1, ours.room()).map_err(refusal);
     let given = answered(&record, call);
     let line = || format!("{:?} with room {}: {:?}, wanted {:?}, lent {}", record, room, given, answer, shown(&ours.0));
     tally.count(&answer, given == Some(answer) && ours == wanted, line);

@@ -369,7 +369,7 @@ const fn digits() -> [u8; 256] {
 const HEXADECIMAL: [u8; 16] = *b"0123456789abcdef";
 
 #[inline(never)]
-pub fn read_frame(text: &[u8]) -> Result<(u32, [i64; 16]), Refused> {
+pub fn frame_to_matrix(text: &[u8]) -> Result<(u32, [i64; 16]), Refused> {
     if text.len() != FRAME_LENGTH {
         return Err((9, text.len().min(FRAME_LENGTH)));
     }
@@ -400,7 +400,7 @@ fn put_number(buffer: &mut [u8], at: usize, count: usize, number: u32) {
 }
 
 #[inline(never)]
-pub fn write_frame(exponent: u32, coefficients: &[i64; 16], buffer: &mut [u8]) -> Result<(), Refused> {
+pub fn matrix_to_frame(exponent: u32, coefficients: &[i64; 16], buffer: &mut [u8]) -> Result<(), Refused> {
     judge(exponent, &entries(coefficients))?;
     if buffer.len() < FRAME_LENGTH {
         return Err((3, FRAME_LENGTH));
@@ -418,6 +418,6 @@ pub fn write_frame(exponent: u32, coefficients: &[i64; 16], buffer: &mut [u8]) -
 
 #[inline(never)]
 pub fn frame_to_form(text: &[u8], buffer: &mut [u8]) -> Result<Figures, Refused> {
-    let (exponent, coefficients) = read_frame(text)?;
+    let (exponent, coefficients) = frame_to_matrix(text)?;
     matrix_to_form(exponent, &coefficients, buffer)
 }

@@ -136,21 +136,21 @@ static void frames(void)
     int64_t read[CHORVADHIM_COEFFICIENTS];
     uint8_t buffer[CHORVADHIM_FRAME_LENGTH];
     char text[] = FRAME_OF_H;
-    uint64_t word = chorvadhim_write_frame(1, h, buffer, sizeof buffer);
+    uint64_t word = chorvadhim_matrix_to_frame(1, h, buffer, sizeof buffer);
     expect(word == 0 && memcmp(buffer, text, sizeof buffer) == 0, "the frame of H, written");
-    word = chorvadhim_read_frame(bytes(text), sizeof buffer, read);
+    word = chorvadhim_frame_to_matrix(bytes(text), sizeof buffer, read);
     expect(word == 1 << 8 && chorvadhim_exponent(word) == 1 && memcmp(read, h, sizeof h) == 0, "the frame of H, read");
     word = chorvadhim_frame_to_form(bytes(text), sizeof buffer, buffer, sizeof buffer);
     expect(word == 1 << 8 && buffer[0] == 'H', "the form of the frame of H");
-    word = chorvadhim_write_frame(1, h, buffer, sizeof buffer - 1);
+    word = chorvadhim_matrix_to_frame(1, h, buffer, sizeof buffer - 1);
     expect(is_refusal(word, 3, CHORVADHIM_FRAME_LENGTH), "no room for a frame");
     expect(buffer[0] == 'H' && memcmp(buffer + 1, text + 1, sizeof buffer - 1) == 0, "the bytes after the form of H stay");
-    word = chorvadhim_read_frame(bytes(text), sizeof buffer - 1, read);
+    word = chorvadhim_frame_to_matrix(bytes(text), sizeof buffer - 1, read);
     expect(is_refusal(word, 9, CHORVADHIM_FRAME_LENGTH - 1), "a frame too short");
     memcpy(text, "29", 2);
-    expect(is_refusal(chorvadhim_read_frame(bytes(text), sizeof buffer, read), 10, 130), "k = 41 and a wrong check word");
+    expect(is_refusal(chorvadhim_frame_to_matrix(bytes(text), sizeof buffer, read), 10, 130), "k = 41 and a wrong check word");
     text[130 + 1] = 'A';
-    expect(is_refusal(chorvadhim_read_frame(bytes(text), sizeof buffer, read), 9, 131), "a capital digit");
+    expect(is_refusal(chorvadhim_frame_to_matrix(bytes(text), sizeof buffer, read), 9, 131), "a capital digit");
     expect(memcmp(read, h, sizeof h) == 0, "a refusal changes no lent coefficient");
 }
 

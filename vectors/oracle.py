@@ -9,7 +9,7 @@ is 0. What is then left of the exact matrix, phase included, is looked up
 among the 192 tails. A wrong syllable would leave no tail, so each form
 that comes out has the right matrix.
 
-Commands:  letters, frames, calls   lines from standard input, answers out
+Commands:  letters, frames, call_tests   lines from standard input, answers out
            make DIR, check DIR      the stored tests, in DIR/crates/PROGRAM/
            selftest                 the claims that the oracle rests on
 """
@@ -421,7 +421,7 @@ def frame_record(frame):
     return int(frame[:2], 16), [signed_word(frame[i : i + 8]) for i in places]
 
 
-def read_frame(frame):
+def frame_to_matrix(frame):
     """The record as written, not reduced."""
     refuse_frame_digits(frame)
     exponent, coefficients = frame_record(frame)
@@ -432,11 +432,11 @@ def read_frame(frame):
 
 
 def frame_to_form(frame, room):
-    exponent, coefficients = read_frame(frame)
+    exponent, coefficients = frame_to_matrix(frame)
     return form_answer(record_of(exponent, coefficients), room)
 
 
-def write_frame(exponent, coefficients, room):
+def matrix_to_frame(exponent, coefficients, room):
     refuse_record(exponent, coefficients)
     return fitted(frame_text(exponent, coefficients), room)
 
@@ -480,7 +480,7 @@ def matrix_line(text):
 
 
 def frame_line(text):
-    return b"ok " + write_frame(*read_frame(text), FRAME_LENGTH)
+    return b"ok " + matrix_to_frame(*frame_to_matrix(text), FRAME_LENGTH)
 
 
 CALLS = {
@@ -491,12 +491,12 @@ CALLS = {
 }
 
 
-def calls_line(line):
+def call_tests_line(line):
     name, _, arguments = line.partition(b" ")
     return CALLS[name](arguments)
 
 
-PROGRAMS = {"letters": letters_line, "frames": frames_line, "calls": calls_line}
+PROGRAMS = {"letters": letters_line, "frames": frames_line, "call_tests": call_tests_line}
 
 
 def lines_of(data):

@@ -355,8 +355,8 @@ def test_comparison():
     expect_refusal(2, 4096, compare, full, b"Q", which="first")
     expect_refusal(1, 0, compare, b"", b"Q", which="second")
     expect_refusal(2, 4096, compare, b"T", full, which="second")
-    expect(oracle.answers("calls", b"compare  \ncompare  W\n"), b"same\nphase 7\n")
-    expect(oracle.answers("calls", b"compare W H H\n"), b"no 1 1 second\n")
+    expect(oracle.answers("call_tests", b"compare  \ncompare  W\n"), b"same\nphase 7\n")
+    expect(oracle.answers("call_tests", b"compare W H H\n"), b"no 1 1 second\n")
 
 
 # --- Matrices and frames -----------------------------------------------------
@@ -417,12 +417,12 @@ def test_frames():
 
 def test_frames_come_back():
     """Read and written again: the same digits, the same record, the same form."""
-    write = oracle.write_frame
+    write = oracle.matrix_to_frame
     dice = stored.Dice(21)
     for _ in range(200):
         text = stored.string_in_exponent_limit(dice)
         frame = stored.frame_of_random_string(dice, text)
-        record = oracle.read_frame(frame)
+        record = oracle.frame_to_matrix(frame)
         expect(write(*record, 138), frame, text)
         expect(oracle.frame_to_form(frame, ROOM).form, form_of_string(text), text)
         expect_refusal(3, 138, write, *record, 137)

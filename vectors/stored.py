@@ -11,7 +11,7 @@ import random
 import oracle
 from oracle import LETTERS, STRING_LIMIT, FORM_LIMIT, EXPONENT_LIMIT
 
-PROGRAM_SEEDS = {"letters": 2008, "frames": 2013, "calls": 2018}
+PROGRAM_SEEDS = {"letters": 2008, "frames": 2013, "call_tests": 2018}
 CLIFFORD_LETTERS = b"HSWXYZ"
 LIMIT = oracle.COEFFICIENT_LIMIT
 SMALLEST_WORD = -(2**31)
@@ -559,7 +559,7 @@ def strings_for_matrix(dice):
         yield mix(dice, STRING_LIMIT)
 
 
-def frames_for_calls(dice):
+def frames_for_call_tests(dice):
     yield H_FRAME
     yield from map(frame_of, UNREDUCED_WORKED)
     refused = list(refused_frames())
@@ -567,23 +567,23 @@ def frames_for_calls(dice):
     yield from random_frames(dice, 240)
 
 
-def calls_lines(dice):
+def call_tests_lines(dice):
     for text in reader_texts(dice):
         yield b"read " + text
     for first, second in compared_pairs(dice):
         yield b"compare " + first + b" " + second
     for text in strings_for_matrix(dice):
         yield b"matrix " + text
-    for frame in frames_for_calls(dice):
+    for frame in frames_for_call_tests(dice):
         yield b"frame " + frame
 
 
 # --- Files -------------------------------------------------------------------
 
-LINES = {"letters": letters_lines, "frames": frames_lines, "calls": calls_lines}
+LINES = {"letters": letters_lines, "frames": frames_lines, "call_tests": call_tests_lines}
 
 
-LAST_LINE_END = {"letters": b"", "frames": b"", "calls": b"\n"}
+LAST_LINE_END = {"letters": b"", "frames": b"", "call_tests": b"\n"}
 
 
 def stored_files():

@@ -1,4 +1,4 @@
 pub mod Phase
 pub mod Related
 pub mod States
-pub mod Comparison
+pub mod Once

@@ -7,7 +7,7 @@ use mathlib.Core.List.{List, [], _∷_, _++_, append-assoc}
 use mathlib.Core.Path.{_≡_, refl, sym, ap, _∙_}
 use lib.IntN.{pos}
 use lib.ListN.{replicate, replicate-append-replicate}
-use Rattle.whole.proofs.Solver.{var, con, _⊕_, _⊗_, solve}
+use Rattle.algebra.proofs.Solver.{var, con, _⊕_, _⊗_, solve}
 use Rattle.ring.specs.declared.Element.{Element}
 use Rattle.ring.specs.Element.{nothing, omega as ω, sum, multiple, turned, product}
 use Rattle.ring.proofs.Formal.{formal, turnedᶠ, _*ᶠ_, xᶠ, coefficients, coefficientwise}
@@ -18,7 +18,7 @@ use Rattle.matrix.specs.Letter.{S, W, X, gate, gate-W, matrix-of}
 use Rattle.matrix.proofs.Entries.{equal-entries}
 use Rattle.matrix.proofs.Times.{matrix-of-append}
 use Rattle.form.specs.Tail.{tails, tail-h, tail-b, tail-c, tail-a, head-text, tail-text}
-use Rattle.compare.specs.Compare.{omega-power, phased}
+use Rattle.compare.specs.Promise.{omega-power, phased}
 
 -- ---- W's are powers of ω
 omega-times : (x : Element) → product ω x ≡ turned x

@@ -12,9 +12,9 @@ use Rattle.matrix.proofs.Same.{same-sym, same-trans}
 use Rattle.matrix.proofs.Unitary.{unitary-matrix-of}
 use Rattle.matrix.proofs.Adjoint.{unitary-cancel}
 use Rattle.form.specs.Tail.{tail-text, head-text}
-use Rattle.extend.proofs.Append.{same-before}
+use Rattle.extend_form.proofs.Append.{same-before}
 use Rattle.unique.proofs.Tails.{tails-mean-different}
-use Rattle.compare.specs.Compare.{Verdict, same, phase, different, refused, phased, Phase-apart, Related, equal, apart, unlike}
+use Rattle.compare.specs.Promise.{Verdict, same, phase, different, refused, phased, Phase-apart, Related, equal, apart, unlike}
 use Rattle.compare.proofs.Phase.{Ws-are-a-phase, phased-round, with-Ws, phased-text}
 
 -- no phase is equality

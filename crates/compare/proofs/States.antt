@@ -9,13 +9,13 @@ use Rattle.matrix.proofs.Same.{same-of-equal}
 use Rattle.form.specs.Tail.{tail-text}
 use Rattle.form.proofs.Count.{t-count-tail}
 use Rattle.form.proofs.Grammar.{tails-distinct}
-use Rattle.extend.specs.declared.State.{State}
-use Rattle.extend.specs.State.{codes-text, used, state-text, Spells}
-use Rattle.extend.proofs.Spelling.{codes-form}
-use Rattle.extend.proofs.Stack.{length-used}
-use Rattle.extend.proofs.Known.{codes-known}
+use Rattle.extend_form.specs.declared.State.{State}
+use Rattle.extend_form.specs.State.{codes-text, used, state-text, Spells}
+use Rattle.extend_form.proofs.Spelling.{codes-form}
+use Rattle.extend_form.proofs.Stack.{length-used}
+use Rattle.extend_form.proofs.Known.{codes-known}
 use Rattle.unique.proofs.Unique.{forms-are-unique}
-use Rattle.compare.specs.Compare.{same, phase, different, Phase-apart, Related, equal, apart, unlike}
+use Rattle.compare.specs.Promise.{same, phase, different, Phase-apart, Related, equal, apart, unlike}
 use Rattle.compare.proofs.Phase.{with-Ws, with-Ws-in-tails, phased-text}
 use Rattle.compare.proofs.Related.{equal-by-none}
 

@@ -1,16 +1,16 @@
 // Comparison of two strings: same, a phase apart, or different.
 use answer::Refusal;
 use answer::STRING_LIMIT;
-use extend::State;
-use spell::Spelled;
+use extend_form::State;
+use normalise::Spelled;
 ghost use Prim.Native.Nat.{_+_, _%_, _≤_, _<_};
 ghost use mathlib.Core.Bool.{true};
 ghost use mathlib.Core.Logic.{_↔_};
 ghost use mathlib.Core.Path.{_≡_};
 ghost use lib.ListN.{length};
 ghost use Rattle.form.specs.Tail.{tail-a};
-ghost use Rattle.extend.specs.State.{used, state-text, Spells};
-ghost use Rattle.compare.specs.Compare.{verdict, Related, Comparison};
+ghost use Rattle.extend_form.specs.State.{used, state-text, Spells};
+ghost use Rattle.compare.specs.Promise.{verdict, Related, Compare};
 
 // The string that a refusal concerns.
 pub enum Which {
@@ -82,16 +82,16 @@ fn relation(first: &[u8; STRING_LIMIT], a: State, second: &[u8; STRING_LIMIT], b
 
 // The second string is looked at only when the first was accepted.
 pub fn compare(first: &[u8], second: &[u8]) -> Compared
-    ensures { λ r. ⌜ Comparison (now (first .entry)) (now (second .entry)) (verdict r) ⌝ }
+    ensures { λ r. ⌜ Compare (now (first .entry)) (now (second .entry)) (verdict r) ⌝ }
 {
     let products = tail::products();
-    let mut first_stack = spell::empty_stack();
-    let first_spelled = spell::spell(&products, &mut first_stack, first);
+    let mut first_stack = normalise::empty_stack();
+    let first_spelled = normalise::spell(&products, &mut first_stack, first);
     let Spelled::Form(a) = first_spelled else {
         return refused(Which::First, first_spelled);
     };
-    let mut second_stack = spell::empty_stack();
-    let second_spelled = spell::spell(&products, &mut second_stack, second);
+    let mut second_stack = normalise::empty_stack();
+    let second_spelled = normalise::spell(&products, &mut second_stack, second);
     let Spelled::Form(b) = second_spelled else {
         return refused(Which::Second, second_spelled);
     };

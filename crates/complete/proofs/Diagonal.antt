@@ -8,9 +8,9 @@ use native.Mathlib.Decide.{decLt}
 use native.Mathlib.Omega.{arith}
 use lib.IntN.{pos}
 use lib.ListN.{replicate}
-use Rattle.whole.proofs.Ring.{times-none}
-use Rattle.whole.proofs.Solver.{var, con, _⊕_, _⊗_, ⊖_, solve, combine, given, done}
-use Rattle.whole.proofs.Cancellation.{four-squares-zero}
+use Rattle.algebra.proofs.Ring.{times-none}
+use Rattle.algebra.proofs.Solver.{var, con, _⊕_, _⊗_, ⊖_, solve, combine, given, done}
+use Rattle.algebra.proofs.Cancellation.{four-squares-zero}
 use Rattle.ring.specs.declared.Element.{Element}
 use Rattle.ring.specs.Element.{element, nothing, one, omega as ω, omega2, root2, sum, product, multiple, turned, negation, conjugate, size-whole, root2-power}
 use Rattle.ring.proofs.Ring.{elements, product-assoc, product-comm, product-one, conjugate-conjugate, conjugate-nothing}

@@ -8,10 +8,10 @@ use Prim.Native.Nat.{ℕ, suc, _+_, _*_, _^_}
 use native.Mathlib.Nat.{pow-suc}
 use native.Mathlib.Omega.{arith}
 use lib.IntN.{natAbs, ℤ, pos, _+ℤ_, _*ℤ_, negℤ}
-use Rattle.whole.proofs.Whole.{whole}
-use Rattle.whole.proofs.Solver.{Expr, var, con, _⊕_, _⊗_, ⊖_, value, combine, given, done}
-use Rattle.whole.proofs.Parity.{odd, differ, odd-equation}
-use Rattle.whole.proofs.Cancellation.{double-cancel, square-size}
+use Rattle.algebra.proofs.Whole.{whole}
+use Rattle.algebra.proofs.Solver.{Expr, var, con, _⊕_, _⊗_, ⊖_, value, combine, given, done}
+use Rattle.algebra.proofs.Parity.{odd, differ, odd-equation}
+use Rattle.algebra.proofs.Cancellation.{double-cancel, square-size}
 use Rattle.ring.specs.declared.Element.{Element}
 use Rattle.ring.specs.Element.{element, omega2, sum, product, multiple, turned, conjugate}
 use Rattle.ring.proofs.Formal.{Formal, formal, _+ᶠ_, _*ᶠ_, coefficientwise}

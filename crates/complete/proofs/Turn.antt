@@ -7,7 +7,7 @@ use Prim.Native.Nat.{ℕ, suc, _+_}
 use native.Mathlib.Nat.{zero-add}
 use native.Mathlib.Omega.{arith}
 use lib.IntN.{pos}
-use Rattle.whole.proofs.Solver.{Expr, var, con, _⊕_, _⊗_, ⊖_, solve, combine, Hypotheses, given, done}
+use Rattle.algebra.proofs.Solver.{Expr, var, con, _⊕_, _⊗_, ⊖_, solve, combine, Hypotheses, given, done}
 use Rattle.ring.specs.declared.Element.{Element}
 use Rattle.ring.specs.Element.{nothing, one, omega as ω, omega2, root2, sum, product, multiple, turned, negation, conjugate, root2-power}
 use Rattle.ring.proofs.Formal.{formal, -ᶠ_, _*ᶠ_, conjugateᶠ, xᶠ, coefficients, coefficientwise}

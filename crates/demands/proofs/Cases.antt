@@ -12,13 +12,13 @@ use Rattle.answer.specs.declared.Refusal.{Refusal}
 use Rattle.answer.specs.Refusal.{Said, refusal}
 use Rattle.answer.specs.Written.{Put-form}
 use Rattle.answer.proofs.Told.{refusal-told, accepted-is-not-refused}
-use Rattle.letter.proofs.String.{string-refused-once, string-refused-or-accepted}
-use Rattle.accept.proofs.Judged as Judged
+use Rattle.alphabet.proofs.String.{string-refused-once, string-refused-or-accepted}
+use Rattle.accept_record.proofs.Judged as Judged
 use Rattle.frame.specs.Calls.{Accepted-frame, Refused-frame, refused-frame, accepted-frame}
-use Rattle.frame.proofs.Once.{frame-read-once}
-use Rattle.squeeze.specs.String as Squeeze
-use Rattle.gates.specs.Gates as Gates
-use Rattle.unframe.specs.Unframe as Unframe
+use Rattle.frame.proofs.Once.{frame-to-matrix-said-once}
+use Rattle.string_to_form.specs.Promise as String-to-form-rules
+use Rattle.matrix_to_form.specs.Promise as Matrix-to-form-rules
+use Rattle.frame_to_form.specs.Promise as Frame-to-form-rules
 use Rattle.demands.specs.Input.{Input, Promised, of-string, of-record, of-frame, Refused, string-refused, record-refused, frame-refused, Accepted, string, matrix, frame}
 
 -- a promise, taken apart
@@ -29,22 +29,22 @@ pub data Case (i : Input) (before : List ℕ) : Said Figures → List ℕ → Ty
       Accepted i m → Form f → Same (matrix-of f) m → Put-form f before answer after → Case i before answer after
 
 pub promised-case : {i : Input} {before after : List ℕ} {answer : Said Figures} → Promised i before answer after → Case i before answer after
-promised-case (of-string (Squeeze.refused-string r)) = of-input (string-refused r)
-promised-case (of-string (Squeeze.squeezed a f p)) = of-form (string a) (f .form) (f .same) p
-promised-case (of-record (Gates.refused-record r)) = of-input (record-refused r)
-promised-case (of-record (Gates.squeezed a f s p)) = of-form (matrix a) f s p
-promised-case (of-frame (Unframe.refused-frame r)) = of-input (frame-refused r)
-promised-case (of-frame (Unframe.squeezed a f s p)) = of-form (frame a) f s p
+promised-case (of-string (String-to-form-rules.refused-string r)) = of-input (string-refused r)
+promised-case (of-string (String-to-form-rules.with-form a f p)) = of-form (string a) (f .form) (f .same) p
+promised-case (of-record (Matrix-to-form-rules.refused-record r)) = of-input (record-refused r)
+promised-case (of-record (Matrix-to-form-rules.with-form a f s p)) = of-form (matrix a) f s p
+promised-case (of-frame (Frame-to-form-rules.refused-frame r)) = of-input (frame-refused r)
+promised-case (of-frame (Frame-to-form-rules.with-form a f s p)) = of-form (frame a) f s p
 
 -- a frame is refused in one way only, or accepted, with one record
 frame-refused-once : {text : List ℕ} {r s : Refusal} → Refused-frame text r → Refused-frame text s → r ≡ s
-frame-refused-once {r = r} {s = s} a b = refusal-told r s (frame-read-once (refused-frame a) (refused-frame b))
+frame-refused-once {r = r} {s = s} a b = refusal-told r s (frame-to-matrix-said-once (refused-frame a) (refused-frame b))
 
 frame-refused-or-accepted : {text : List ℕ} {m : Matrix} {r : Refusal} → Refused-frame text r → Accepted-frame text m → ⊥
-frame-refused-or-accepted a b = accepted-is-not-refused (frame-read-once (accepted-frame b) (refused-frame a))
+frame-refused-or-accepted a b = accepted-is-not-refused (frame-to-matrix-said-once (accepted-frame b) (refused-frame a))
 
 frame-accepted-once : {text : List ℕ} {m n : Matrix} → Accepted-frame text m → Accepted-frame text n → m ≡ n
-frame-accepted-once a b = let read = frame-read-once (accepted-frame a) (accepted-frame b) in cc
+frame-accepted-once a b = let read = frame-to-matrix-said-once (accepted-frame a) (accepted-frame b) in cc
 
 pub refused-once : {i : Input} {r s : Refusal} → Refused i r → Refused i s → r ≡ s
 refused-once (string-refused a) (string-refused b) = string-refused-once a b

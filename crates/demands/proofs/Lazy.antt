@@ -6,8 +6,8 @@ use mathlib.Core.List.{List, [], _∷_}
 use Prim.Native.Nat.{ℕ, _<_, _≤_, zero-le, suc-le-suc}
 use native.Mathlib.Omega.{arith}
 use lib.ListN.{length}
-use Rattle.whole.specs.List.{none, more}
-use Rattle.whole.proofs.List.{every-first, every-rest}
+use Rattle.algebra.specs.List.{none, more}
+use Rattle.algebra.proofs.List.{every-first, every-rest}
 use Rattle.ring.specs.Element.{one, negation}
 use Rattle.matrix.specs.declared.Matrix.{Matrix}
 use Rattle.matrix.specs.Matrix.{Same}
@@ -25,10 +25,10 @@ use Rattle.answer.specs.declared.Figures.{Figures}
 use Rattle.answer.specs.Refusal.{Said, accepted, refused}
 use Rattle.answer.specs.Written.{figures-of, put, room}
 use Rattle.answer.proofs.Told.{accepted-is-not-refused}
-use Rattle.letter.specs.String.{Accepted-string}
-use Rattle.accept.specs.Accept.{Accepted-record, coefficients, in-limit}
-use Rattle.squeeze.specs.String.{squeezed}
-use Rattle.gates.specs.Gates as Gates
+use Rattle.alphabet.specs.String.{Accepted-string}
+use Rattle.accept_record.specs.Accept.{Accepted-record, coefficients, in-limit}
+use Rattle.string_to_form.specs.Promise.{with-form}
+use Rattle.matrix_to_form.specs.Promise as Matrix-to-form-rules
 use Rattle.demands.specs.Input.{Input, a-string, a-record, Promised, of-string, of-record, Accepted}
 use Rattle.demands.specs.Answer.{form-in}
 use Rattle.demands.specs.Call.{Call, Keeps}
@@ -60,10 +60,10 @@ TT-accepted = record { within = omega arith; letters = more refl (more refl none
 
 -- what the promise asks for the empty string, and for TT with room for a byte
 asked-of-nothing : (before : List ℕ) → Promised (a-string []) before (accepted (figures-of [])) (put [] before)
-asked-of-nothing before = of-string (squeezed nothing-accepted form-of-nothing (room zero-le))
+asked-of-nothing before = of-string (with-form nothing-accepted form-of-nothing (room zero-le))
 
 asked-of-TT : (b : ℕ) (rest : List ℕ) → Promised (a-string TT) (b ∷ rest) (accepted (figures-of just-S)) (put just-S (b ∷ rest))
-asked-of-TT b rest = of-string (squeezed TT-accepted form-of-TT (room (suc-le-suc zero-le)))
+asked-of-TT b rest = of-string (with-form TT-accepted form-of-TT (room (suc-le-suc zero-le)))
 
 gate-of-H : gate H ≡ gate-H
 unfolding gate
@@ -92,7 +92,7 @@ unfolding form-text front-text syllables-text tail-text head-text
 H-form = record { parts = record { front = false; syllables = []; tail = 64 }; in-tails = omega arith; spelled = refl }
 
 asked-of-H : (b : ℕ) → Promised (a-record gate-H) (b ∷ []) (accepted (figures-of just-H)) (put just-H (b ∷ []))
-asked-of-H b = of-record (Gates.squeezed H-accepted H-form H-same (room (suc-le-suc zero-le)))
+asked-of-H b = of-record (Matrix-to-form-rules.with-form H-accepted H-form H-same (room (suc-le-suc zero-le)))
   where
     H-same : Same (matrix-of just-H) gate-H
     H-same = same-of-equal (matrix-of-letter H ∙ gate-of-H)

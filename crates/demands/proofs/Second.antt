@@ -21,15 +21,15 @@ use Rattle.answer.specs.Refusal.{Said, accepted}
 use Rattle.answer.specs.Written.{no-room, room, figures-of}
 use Rattle.answer.proofs.Put.{Stands, put-stands}
 use Rattle.answer.specs.Limits.{exponent-limit}
-use Rattle.letter.specs.String.{Accepted-string}
-use Rattle.letter.proofs.String.{string-refused-or-accepted}
-use Rattle.accept.specs.Accept.{Inside}
-use Rattle.expand.specs.Expand.{String-to-matrix, refused-string, high-least-exponent, least-record}
+use Rattle.alphabet.specs.String.{Accepted-string}
+use Rattle.alphabet.proofs.String.{string-refused-or-accepted}
+use Rattle.accept_record.specs.Accept.{Inside}
+use Rattle.string_to_matrix.specs.Promise.{String-to-matrix, refused-string, high-least-exponent, least-record}
 use Rattle.demands.specs.Input.{Input, a-record, Promised, Accepted, string, matrix, frame}
 use Rattle.demands.specs.Answer.{form-in, Formed, Room, Taken}
 use Rattle.demands.proofs.Cases.{Case, of-input, of-form, promised-case, refused-or-accepted, accepted-once}
 use Rattle.unique.proofs.Unique.{forms-are-unique}
-use Rattle.extend.proofs.Exists.{form-exists, form-length}
+use Rattle.extend_form.proofs.Exists.{form-exists, form-length}
 use Rattle.complete.proofs.Complete.{complete}
 
 -- a form that stands at the start of the buffer is what the answer speaks of

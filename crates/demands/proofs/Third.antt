@@ -16,7 +16,7 @@ use Rattle.demands.specs.Input.{Input, Promised, Accepted}
 use Rattle.demands.specs.Answer.{form-in}
 use Rattle.demands.proofs.Second.{form-has-the-matrix}
 use Rattle.unique.proofs.Unique.{forms-are-unique}
-use Rattle.extend.proofs.Exists.{form-exists}
+use Rattle.extend_form.proofs.Exists.{form-exists}
 
 -- "They get the same form, byte for byte, exactly when their matrices are equal."
 pub same-form-exactly-when-same-matrix :

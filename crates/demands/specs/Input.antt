@@ -7,12 +7,12 @@ use Rattle.matrix.specs.Letter.{matrix-of}
 use Rattle.answer.specs.declared.Figures.{Figures}
 use Rattle.answer.specs.declared.Refusal.{Refusal}
 use Rattle.answer.specs.Refusal.{Said}
-use Rattle.letter.specs.String.{Accepted-string, Refused-string}
-use Rattle.accept.specs.Accept.{Accepted-record, Refused-record}
+use Rattle.alphabet.specs.String.{Accepted-string, Refused-string}
+use Rattle.accept_record.specs.Accept.{Accepted-record, Refused-record}
 use Rattle.frame.specs.Calls.{Accepted-frame, Refused-frame}
-use Rattle.squeeze.specs.String.{String-to-form}
-use Rattle.gates.specs.Gates.{Matrix-to-form}
-use Rattle.unframe.specs.Unframe.{Frame-to-form}
+use Rattle.string_to_form.specs.Promise.{String-to-form}
+use Rattle.matrix_to_form.specs.Promise.{Matrix-to-form}
+use Rattle.frame_to_form.specs.Promise.{Frame-to-form}
 
 pub data Input : Type 0 where
   a-string : List ℕ → Input

@@ -4,7 +4,7 @@ use mathlib.Core.Path.{_≡_, refl, sym, _∙_, ap, subst}
 use mathlib.Core.List.{List}
 use Prim.Native.Nat.{ℕ}
 use native.Mathlib.Omega.{arith}
-use Rattle.whole.proofs.List.{passes-or-fails, fails-once}
+use Rattle.algebra.proofs.List.{passes-or-fails, fails-once}
 use Rattle.matrix.specs.declared.Matrix.{Matrix}
 use Rattle.answer.specs.declared.Refusal.{Refusal}
 use Rattle.answer.specs.declared.Refusal.the-variants.{BadFrame}
@@ -12,8 +12,8 @@ use Rattle.answer.specs.declared.Returned.{Returned}
 use Rattle.answer.specs.Refusal.{Said, accepted, refusal}
 use Rattle.answer.specs.Returned.{said}
 use Rattle.answer.proofs.Told.{refusal-told, accepted-is-not-refused, returned-told}
-use Rattle.accept.specs.Accept.{Refused-record}
-use Rattle.accept.proofs.Judged.{refused-once, accepted-not-refused}
+use Rattle.accept_record.specs.Accept.{Refused-record}
+use Rattle.accept_record.proofs.Judged.{refused-once, accepted-not-refused}
 use Rattle.frame.specs.declared.Stored.{Stored}
 use Rattle.frame.specs.declared.Stored.the-variants.{Frame, Refused}
 use Rattle.frame.specs.Frame.{check-word, Spells}
@@ -64,30 +64,30 @@ accepted-frame-not-refused a (bad-check-word s w) = wrong-not-right s w (a .spel
 accepted-frame-not-refused a (bad-record s r) = accepted-not-refused (a .record-accepted) (refused-as s (a .spells) r)
 
 -- two answers of the frame reader that fit its promise are equal
-pub frame-read-once : {text : List ℕ} {a b : Said Matrix} → Frame-to-matrix text a → Frame-to-matrix text b → a ≡ b
-frame-read-once (refused-frame r) (refused-frame s) = ap refusal (refused-frame-once r s)
-frame-read-once (refused-frame r) (accepted-frame b) = absurd (accepted-frame-not-refused b r)
-frame-read-once (accepted-frame a) (refused-frame s) = absurd (accepted-frame-not-refused a s)
-frame-read-once (accepted-frame a) (accepted-frame b) = ap accepted (spells-once (a .spells) (b .spells) .0)
+pub frame-to-matrix-said-once : {text : List ℕ} {a b : Said Matrix} → Frame-to-matrix text a → Frame-to-matrix text b → a ≡ b
+frame-to-matrix-said-once (refused-frame r) (refused-frame s) = ap refusal (refused-frame-once r s)
+frame-to-matrix-said-once (refused-frame r) (accepted-frame b) = absurd (accepted-frame-not-refused b r)
+frame-to-matrix-said-once (accepted-frame a) (refused-frame s) = absurd (accepted-frame-not-refused a s)
+frame-to-matrix-said-once (accepted-frame a) (accepted-frame b) = ap accepted (spells-once (a .spells) (b .spells) .0)
 
 -- so the value that is returned is one
-pub frame-returned-once : {text : List ℕ} (a b : Returned) → Frame-to-matrix text (said a) → Frame-to-matrix text (said b) → a ≡ b
-frame-returned-once a b p q = returned-told a b (frame-read-once p q)
+pub frame-to-matrix-returns-once : {text : List ℕ} (a b : Returned) → Frame-to-matrix text (said a) → Frame-to-matrix text (said b) → a ≡ b
+frame-to-matrix-returns-once a b p q = returned-told a b (frame-to-matrix-said-once p q)
 
 -- ---- matrix to frame
 -- two answers of the frame writer that fit its promise are equal, and so are the buffers
-pub frame-written-once :
+pub matrix-to-frame-said-once :
     {m : Matrix} {before s t : List ℕ} {a b : Said (Unit {0})} → Matrix-to-frame m before a s → Matrix-to-frame m before b t →
     (a ≡ b) × (s ≡ t)
-frame-written-once (refused-record r) (refused-record q) = (ap refusal (refused-once r q), refl)
-frame-written-once (refused-record r) (no-room a h) = absurd (accepted-not-refused a r)
-frame-written-once (refused-record r) (framed a h) = absurd (accepted-not-refused a r)
-frame-written-once (no-room a h) (refused-record q) = absurd (accepted-not-refused a q)
-frame-written-once (no-room a h) (no-room b k) = (refl, refl)
-frame-written-once (no-room a h) (framed b k) = absurd (omega arith)
-frame-written-once (framed a h) (refused-record q) = absurd (accepted-not-refused a q)
-frame-written-once (framed a h) (no-room b k) = absurd (omega arith)
-frame-written-once (framed a h) (framed b k) = (refl, refl)
+matrix-to-frame-said-once (refused-record r) (refused-record q) = (ap refusal (refused-once r q), refl)
+matrix-to-frame-said-once (refused-record r) (no-room a h) = absurd (accepted-not-refused a r)
+matrix-to-frame-said-once (refused-record r) (framed a h) = absurd (accepted-not-refused a r)
+matrix-to-frame-said-once (no-room a h) (refused-record q) = absurd (accepted-not-refused a q)
+matrix-to-frame-said-once (no-room a h) (no-room b k) = (refl, refl)
+matrix-to-frame-said-once (no-room a h) (framed b k) = absurd (omega arith)
+matrix-to-frame-said-once (framed a h) (refused-record q) = absurd (accepted-not-refused a q)
+matrix-to-frame-said-once (framed a h) (no-room b k) = absurd (omega arith)
+matrix-to-frame-said-once (framed a h) (framed b k) = (refl, refl)
 
 -- no two cases of the enum are said alike, so the value that is returned is one
 stored-told : (a b : Stored) → said-stored a ≡ said-stored b → a ≡ b
@@ -96,7 +96,7 @@ stored-told Frame (Refused s) same = absurd (accepted-is-not-refused same)
 stored-told (Refused r) Frame same = absurd (accepted-is-not-refused (sym same))
 stored-told (Refused r) (Refused s) same = ap Refused (refusal-told r s same)
 
-pub frame-stored-once :
+pub matrix-to-frame-returns-once :
     {m : Matrix} {before s t : List ℕ} (a b : Stored) → Matrix-to-frame m before (said-stored a) s → Matrix-to-frame m before (said-stored b) t →
     (a ≡ b) × (s ≡ t)
-frame-stored-once a b p q = let once = frame-written-once p q in (stored-told a b (once .0), once .1)
+matrix-to-frame-returns-once a b p q = let once = matrix-to-frame-said-once p q in (stored-told a b (once .0), once .1)

@@ -12,12 +12,12 @@ use Rattle.matrix.specs.declared.Matrix.{Matrix}
 use Rattle.answer.specs.Limits.{frame-length}
 use Rattle.answer.specs.Refusal.{Said, accepted}
 use Rattle.answer.specs.Written.{put}
-use Rattle.accept.specs.Accept.{Accepted-record}
+use Rattle.accept_record.specs.Accept.{Accepted-record}
 use Rattle.frame.specs.Frame.{check-word, frame-text, Spells}
 use Rattle.frame.specs.Calls.{Frame-to-matrix, accepted-frame, Matrix-to-frame, framed}
 use Rattle.frame.proofs.Words.{in-words}
 use Rattle.frame.proofs.Spelled.{frame-text-length}
-use Rattle.frame.proofs.Once.{frame-read-once, frame-written-once}
+use Rattle.frame.proofs.Once.{frame-to-matrix-said-once, matrix-to-frame-said-once}
 
 -- what stands at the start of a buffer that a frame was put into
 front : (m : Matrix) (before : List ℕ) → take frame-length (put (frame-text m (check-word m)) before) ≡ frame-text m (check-word m)
@@ -32,7 +32,7 @@ pub frame-round-trip :
     {text before after : List ℕ} {m : Matrix} {said : Said (Unit {0})} → Frame-to-matrix text (accepted m) →
     frame-length ≤ length before → Matrix-to-frame m before said after → (said ≡ accepted tt) × (after ≡ put text before)
 frame-round-trip {before = before} {m = m} (accepted-frame a) room w =
-    let e = frame-written-once w (framed (a .record-accepted) room) in
+    let e = matrix-to-frame-said-once w (framed (a .record-accepted) room) in
     (e .0, e .1 ∙ ap (λ (s : List ℕ). put s before) (sym (a .spells .digits)))
 
 -- the text that is written for an accepted record spells it
@@ -50,7 +50,7 @@ pub record-round-trip :
     {before after : List ℕ} {m : Matrix} {said : Said Matrix} → Matrix-to-frame m before (accepted tt) after →
     Frame-to-matrix (take frame-length after) said → said ≡ accepted m
 record-round-trip {before = before} {m = m} (framed a room) r =
-    frame-read-once r
+    frame-to-matrix-said-once r
     (accepted-frame (record {
       spells = subst (λ (s : List ℕ). Spells s m (check-word m)) (sym (front m before)) (written-spells m a);
       record-accepted = a;

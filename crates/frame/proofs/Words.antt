@@ -13,13 +13,13 @@ use lib.Signed.{ltZ}
 use mir.Syntax.{w64}
 use mir.Val.{SFits}
 use mir.Facts.{toZ-ofZ}
-use Rattle.whole.specs.List.{none, more}
-use Rattle.whole.proofs.List.{every-join}
+use Rattle.algebra.specs.List.{none, more}
+use Rattle.algebra.proofs.List.{every-join}
 use Rattle.ring.specs.Bounds.{Bounded}
 use Rattle.ring.proofs.Bounds.{stored}
 use Rattle.answer.specs.Limits.{coefficient-limit}
-use Rattle.accept.specs.Accept.{In-limits}
-use Rattle.accept.proofs.Limits.{bounded-in-limit}
+use Rattle.accept_record.specs.Accept.{In-limits}
+use Rattle.accept_record.proofs.Limits.{bounded-in-limit}
 use Rattle.frame.specs.Digit.{digits, Digits}
 use Rattle.frame.specs.Frame.{word, words, words-text, In-word, from-zero, below-zero, In-words}
 use Rattle.frame.proofs.Digits.{digits-length, digits-are-digits, digits-once, join-once}

@@ -9,7 +9,7 @@ use Rattle.answer.specs.declared.Refusal.the-variants.{BadFrame, BadCheckWord, 
 use Rattle.answer.specs.Limits.{frame-length}
 use Rattle.answer.specs.Refusal.{Said, accepted, refusal}
 use Rattle.answer.specs.Written.{put}
-use Rattle.accept.specs.Accept.{Accepted-record, Refused-record}
+use Rattle.accept_record.specs.Accept.{Accepted-record, Refused-record}
 use Rattle.frame.specs.declared.Stored.{Stored}
 use Rattle.frame.specs.declared.Stored.the-variants.{Frame, Refused}
 use Rattle.frame.specs.Digit.{First-bad-digit}

@@ -1,5 +1,5 @@
 // Matrix frames: read, and written.
-use accept::Judgement;
+use accept_record::Judgement;
 use answer::CHECK_WORD_PLACE;
 use answer::FRAME_LENGTH;
 use answer::Refusal;
@@ -12,7 +12,7 @@ ghost use mathlib.Core.Path.{_≡_};
 ghost use lib.ListN.{length};
 ghost use Rattle.answer.specs.Limits.{frame-length, check-word-place};
 ghost use Rattle.answer.specs.Written.{put};
-ghost use Rattle.accept.specs.Accept.{coefficients};
+ghost use Rattle.accept_record.specs.Accept.{coefficients};
 ghost use Rattle.frame.specs.Digit.{digit, is-digit, digits, Digits};
 ghost use Rattle.frame.specs.Frame.{word, words, words-text, check-word, frame-text, In-word, In-words};
 ghost use Rattle.answer.specs.Returned.{said};
@@ -177,7 +177,7 @@ fn check_word(m: Matrix) -> u32
     requires { ⌜ In-words (coefficients m) ⌝ }
     ensures { λ r. ⌜ r ≡ check-word m ⌝ }
 {
-    let list = accept::coefficients(m);
+    let list = accept_record::coefficients(m);
     let mut sum = m.exponent;
     let mut i = 0;
     while i < 16 {
@@ -210,7 +210,7 @@ fn read_record(text: &[u8]) -> Matrix
 {
     let exponent = number(&text[..2]);
     let list = coefficients(&text[2..]);
-    accept::record_of(exponent, &list)
+    accept_record::record_of(exponent, &list)
 }
 
 // A frame of 138 digits: its check word, and then its record.
@@ -224,14 +224,14 @@ fn read_digits(text: &[u8]) -> Returned
     if check != check_word(m) {
         return Returned::Refused(Refusal::BadCheckWord);
     }
-    match accept::judge(m) {
+    match accept_record::judge(m) {
         Judgement::Accepted => Returned::Record(m),
         Judgement::Refused(refusal) => Returned::Refused(refusal),
     }
 }
 
 // Frame to matrix.
-pub fn read_frame(text: &[u8]) -> Returned
+pub fn frame_to_matrix(text: &[u8]) -> Returned
     ensures { λ r. ⌜ Frame-to-matrix (now (text .entry)) (said r) ⌝ }
 {
     if text.len() < FRAME_LENGTH {
@@ -255,15 +255,18 @@ fn write_digits(buffer: &mut [u8], m: Matrix)
     ensures { λ _. ⌜ now (buffer .exit) ≡ put (frame-text m (check-word m)) (now (buffer .entry)) ⌝ }
 {
     write_number(&mut buffer[..2], m.exponent);
-    write_words(&mut buffer[2..CHECK_WORD_PLACE], accept::coefficients(m));
+    write_words(
+        &mut buffer[2..CHECK_WORD_PLACE],
+        accept_record::coefficients(m),
+    );
     write_number(&mut buffer[CHECK_WORD_PLACE..FRAME_LENGTH], check_word(m));
 }
 
 // Matrix to frame.
-pub fn write_frame(m: Matrix, buffer: &mut [u8]) -> Stored
+pub fn matrix_to_frame(m: Matrix, buffer: &mut [u8]) -> Stored
     ensures { λ r. ⌜ Matrix-to-frame m (now (buffer .entry)) (said-stored r) (now (buffer .exit)) ⌝ }
 {
-    match accept::judge(m) {
+    match accept_record::judge(m) {
         Judgement::Refused(refusal) => Stored::Refused(refusal),
         Judgement::Accepted => {
             if buffer.len() < FRAME_LENGTH {

@@ -21,7 +21,7 @@ fn answer(line: &[u8], form: &mut [u8], output: &mut [u8], at: usize) -> usize
     requires { ⌜ at + line-room + length (now form) ≤ length (now output) ⌝ }
     ensures { λ r. ⌜ Answered (now (line .entry)) (now (form .entry)) at (now (output .entry)) (now (output .exit)) r ⌝ }
 {
-    let written = unframe::frame_to_form(line, form);
+    let written = frame_to_form::frame_to_form(line, form);
     report::put_answer(written, form, output, at)
 }
 

@@ -6,7 +6,7 @@ use mathlib.Core.List.{List, [], _∷_}
 use Prim.Native.Nat.{ℕ, zero, suc, _+_}
 use lib.Dec.{T as Holds}
 use lib.IntN.{ℤ, pos}
-use Rattle.whole.proofs.Solver.{same as solved, var, con, _⊗_, combine, given, done}
+use Rattle.algebra.proofs.Solver.{same as solved, var, con, _⊗_, combine, given, done}
 use Rattle.ring.specs.declared.Element.{Element}
 use Rattle.ring.specs.Element.{one, root2, sum, product, multiple, turned, root2-power}
 use Rattle.ring.proofs.Formal.{Formal, formal, _+ᶠ_, _*ᶠ_, conjugateᶠ, wholeᶠ, root2ᶠ, meant, coefficientwise}

@@ -7,7 +7,7 @@ use Prim.Native.Nat.{ℕ, zero, suc, _+_, _-_, _≤_, _<_}
 use native.Mathlib.Omega.{arith}
 use native.Mathlib.Nat.{le-antisymm}
 use native.Mathlib.Decide.{decLe}
-use Rattle.whole.proofs.Solver.{var, _⊗_, solve}
+use Rattle.algebra.proofs.Solver.{var, _⊗_, solve}
 use Rattle.ring.specs.declared.Element.{Element}
 use Rattle.ring.specs.Element.{root2, product, root2-power}
 use Rattle.ring.proofs.Ring.{elements}

@@ -2,7 +2,7 @@
 use mathlib.Core.Path.{_≡_, refl, ap, sym, _∙_, subst}
 use mathlib.Core.List.{[], _∷_}
 use Prim.Native.Nat.{ℕ, _+_}
-use Rattle.whole.proofs.Solver.{var, _⊕_, _⊗_, combine, given, done}
+use Rattle.algebra.proofs.Solver.{var, _⊕_, _⊗_, combine, given, done}
 use Rattle.ring.specs.declared.Element.{Element}
 use Rattle.ring.specs.Element.{sum, product, conjugate, root2-power}
 use Rattle.ring.proofs.Ring.{elements, conjugate-product}

@@ -7,7 +7,7 @@ use native.Mathlib.Omega.{arith}
 use mathlib.Core.Path.{_≡_, sym, ap, ap₂, _∙_}
 use lib.Pow.{pow-mono, pow-add}
 use lib.IntN.{ℤ, pos, _+ℤ_, natAbs}
-use Rattle.whole.proofs.Cancellation.{square-size}
+use Rattle.algebra.proofs.Cancellation.{square-size}
 use Rattle.ring.specs.declared.Element.{Element}
 use Rattle.ring.specs.Element.{size-whole}
 use Rattle.ring.specs.Bounds.{Small}

@@ -6,9 +6,9 @@ use mathlib.Core.List.{List, [], _∷_}
 use Prim.Native.Nat.{ℕ, _+_, _^_}
 use native.Mathlib.Omega.{arith}
 use lib.IntN.{ℤ, pos, _+ℤ_, negℤ}
-use Rattle.whole.specs.List.{none, more}
-use Rattle.whole.proofs.Ring.{times-none}
-use Rattle.whole.proofs.Solver.{var, con, _⊕_, _⊗_, ⊖_, solve, combine, given, done}
+use Rattle.algebra.specs.List.{none, more}
+use Rattle.algebra.proofs.Ring.{times-none}
+use Rattle.algebra.proofs.Solver.{var, con, _⊕_, _⊗_, ⊖_, solve, combine, given, done}
 use Rattle.ring.specs.declared.Element.{Element}
 use Rattle.ring.specs.Element.{element, nothing, one, omega as ω, omega2, root2, sum, product, multiple, turned, negation, conjugate, size-whole, size-root2, root2-power}
 use Rattle.ring.proofs.Formal.{formal, _+ᶠ_, _*ᶠ_, wholeᶠ, root2ᶠ, coefficientwise}

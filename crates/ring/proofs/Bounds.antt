@@ -13,7 +13,7 @@ use lib.Signed.{mag}
 use mir.Syntax.{w64}
 use mir.Val.{SFits, ofZ, toZ}
 use mir.Facts.{toZ-ofZ}
-use Rattle.whole.proofs.Cancellation.{size-times}
+use Rattle.algebra.proofs.Cancellation.{size-times}
 use Rattle.ring.specs.declared.Element.{Element}
 use Rattle.ring.specs.Element.{element, sum, negation, multiple, turned, product, conjugate}
 use Rattle.ring.specs.Bounds.{Bounded, Small, Room, Factors}

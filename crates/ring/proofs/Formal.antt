@@ -4,8 +4,8 @@ use mathlib.Core.Path.{_≡_}
 use mathlib.Core.List.{List, [], _∷_}
 use lib.IntN.{ℤ, pos, negsuc}
 use lib.Dec.{T as Holds}
-use Rattle.whole.proofs.Whole.{whole}
-use Rattle.whole.proofs.Solver.{Expr, var, con, _⊕_, _⊗_, ⊖_, value, same, solve}
+use Rattle.algebra.proofs.Whole.{whole}
+use Rattle.algebra.proofs.Solver.{Expr, var, con, _⊕_, _⊗_, ⊖_, value, same, solve}
 use Rattle.ring.specs.declared.Element.{Element}
 use Rattle.ring.specs.Element.{element}
 

@@ -10,7 +10,7 @@ use lib.Signed.{mag, quotZ, remZ}
 use mir.Syntax.{w64}
 use mir.Val.{SFits, ofZ}
 use mir.Facts.{toZ-ofZ}
-use Rattle.whole.proofs.Parity.{odd, odd-suc}
+use Rattle.algebra.proofs.Parity.{odd, odd-suc}
 use Rattle.ring.specs.declared.Element.{Element}
 use Rattle.ring.specs.Element.{element, sum}
 use Rattle.ring.specs.Divided.{Double}

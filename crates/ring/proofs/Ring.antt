@@ -3,8 +3,8 @@ use mathlib.Core.Path.{_≡_, refl, ap₂, _∙_}
 use mathlib.Core.List.{[], _∷_}
 use Prim.Native.Nat.{ℕ}
 use lib.IntN.{ℤ, pos, _+ℤ_, _*ℤ_}
-use Rattle.whole.proofs.Ring.{Ring}
-use Rattle.whole.proofs.Solver.{Expr, var, con, _⊕_, _⊗_, ⊖_}
+use Rattle.algebra.proofs.Ring.{Ring}
+use Rattle.algebra.proofs.Solver.{Expr, var, con, _⊕_, _⊗_, ⊖_}
 use Rattle.ring.specs.declared.Element.{Element}
 use Rattle.ring.specs.Element.{element, nothing, one, root2, sum, negation, multiple, turned, product, conjugate, size-whole, size-root2}
 use Rattle.ring.proofs.Formal.{_+ᶠ_, _*ᶠ_, -ᶠ_, conjugateᶠ, wholeᶠ, root2ᶠ, xᶠ, yᶠ, zᶠ, coefficients, coefficientwise}

@@ -4,8 +4,8 @@ use mathlib.Core.List.{[], _∷_}
 use Prim.Native.Nat.{ℕ, zero, suc, _+_, _*_, _^_}
 use native.Mathlib.Nat.{zero-add, suc-add, add-suc, pow-suc}
 use lib.IntN.{pos, _+ℤ_, _-ℤ_}
-use Rattle.whole.proofs.Solver.{var, _⊕_, _⊗_, ⊖_, solve}
-use Rattle.whole.proofs.Cancellation.{double-cancel}
+use Rattle.algebra.proofs.Solver.{var, _⊕_, _⊗_, ⊖_, solve}
+use Rattle.algebra.proofs.Cancellation.{double-cancel}
 use Rattle.ring.specs.declared.Element.{Element}
 use Rattle.ring.specs.Element.{element, one, root2, sum, multiple, turned, product, conjugate, root2-power}
 use Rattle.ring.proofs.Formal.{formal, _+ᶠ_, _*ᶠ_, root2ᶠ, xᶠ, coefficients, coefficientwise}

@@ -7,7 +7,7 @@ use Prim.Native.Nat.{ℕ, _+_, _<_}
 use native.Mathlib.Omega.{arith}
 use lib.Dec.{T as Holds}
 use lib.ListN.{length}
-use Rattle.whole.proofs.Parity.{differ, differ-false}
+use Rattle.algebra.proofs.Parity.{differ, differ-false}
 use Rattle.ring.specs.Element.{nothing, one, root2, sum, multiple, turned, product, negation}
 use Rattle.form.specs.Tail.{tails, tail-text, head-text}
 use Rattle.form.specs.Form.{Syllable, HT, SHT, Parts, syllable-text, syllables-text, front-text, form-text}

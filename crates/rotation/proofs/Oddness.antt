@@ -7,9 +7,9 @@ use mathlib.Core.List.{List, [], _∷_}
 use Prim.Native.Nat.{ℕ, suc, _+_, _-_, _<_}
 use native.Mathlib.Omega.{arith}
 use lib.IntN.{_+ℤ_}
-use Rattle.whole.proofs.Whole.{whole}
-use Rattle.whole.proofs.Parity.{odd, differ, odd-plus, odd-negate, odd-double}
-use Rattle.whole.proofs.Solver.{var, _⊕_, ⊖_, solve}
+use Rattle.algebra.proofs.Whole.{whole}
+use Rattle.algebra.proofs.Parity.{odd, differ, odd-plus, odd-negate, odd-double}
+use Rattle.algebra.proofs.Solver.{var, _⊕_, ⊖_, solve}
 use Rattle.ring.specs.declared.Element.{Element}
 use Rattle.ring.specs.Element.{root2, sum, product, negation, root2-power}
 use Rattle.ring.proofs.Ring.{product-assoc}

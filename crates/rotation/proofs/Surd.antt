@@ -5,11 +5,11 @@ use mathlib.Core.Bool.{true}
 use mathlib.Core.List.{List, [], _∷_}
 use Prim.Native.Nat.{ℕ}
 use lib.IntN.{ℤ, pos, _+ℤ_, negℤ}
-use Rattle.whole.specs.List.{none, more}
-use Rattle.whole.proofs.Whole.{whole}
-use Rattle.whole.proofs.Parity.{odd}
-use Rattle.whole.proofs.Solver.{var, con, _⊕_, ⊖_, solve}
-use Rattle.whole.proofs.Cancellation.{double-cancel}
+use Rattle.algebra.specs.List.{none, more}
+use Rattle.algebra.proofs.Whole.{whole}
+use Rattle.algebra.proofs.Parity.{odd}
+use Rattle.algebra.proofs.Solver.{var, con, _⊕_, ⊖_, solve}
+use Rattle.algebra.proofs.Cancellation.{double-cancel}
 use Rattle.ring.specs.declared.Element.{Element}
 use Rattle.ring.specs.Element.{element, nothing, one, root2, sum, multiple, product, negation, conjugate}
 use Rattle.ring.proofs.Formal.{formal, _+ᶠ_, multipleᶠ, wholeᶠ, root2ᶠ, coefficientwise}

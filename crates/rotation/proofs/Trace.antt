@@ -4,7 +4,7 @@ use mathlib.Core.Path.{_≡_, refl, ap, sym, _∙_}
 use mathlib.Core.List.{List, [], _∷_}
 use Prim.Native.Nat.{ℕ, _+_}
 use native.Mathlib.Omega.{arith}
-use Rattle.whole.proofs.Solver.{var, _⊕_, _⊗_, combine, given, done}
+use Rattle.algebra.proofs.Solver.{var, _⊕_, _⊗_, combine, given, done}
 use Rattle.ring.specs.declared.Element.{Element}
 use Rattle.ring.specs.Element.{nothing, one, omega2, sum, product, multiple, turned, negation, root2-power}
 use Rattle.ring.proofs.Formal.{Formal, _+ᶠ_, -ᶠ_, xᶠ, yᶠ, zᶠ}

@@ -7,7 +7,7 @@ use Prim.Native.Nat.{ℕ, _+_}
 use native.Mathlib.Nat.{add-zero}
 use lib.Dec.{eqb}
 use lib.IntN.{pos}
-use Rattle.whole.proofs.Solver.{var, con, _⊕_, _⊗_, ⊖_, solve}
+use Rattle.algebra.proofs.Solver.{var, con, _⊕_, _⊗_, ⊖_, solve}
 use Rattle.ring.specs.declared.Element.{Element}
 use Rattle.ring.specs.Element.{nothing, one, omega, omega2, sum, negation, multiple, turned, product}
 use Rattle.ring.proofs.Ring.{elements, product-one}

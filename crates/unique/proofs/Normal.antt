@@ -10,7 +10,7 @@ use Rattle.matrix.specs.Letter.{Letters, matrix-of}
 use Rattle.matrix.proofs.Same.{same-refl, same-of-equal, same-sym, same-trans}
 use Rattle.form.specs.Form.{Form, Form-of}
 use Rattle.form.specs.Count.{t-count}
-use Rattle.extend.proofs.Exists.{form-exists}
+use Rattle.extend_form.proofs.Exists.{form-exists}
 use Rattle.unique.proofs.Unique.{forms-are-unique}
 
 -- letter lists with the same matrix have the same form

@@ -17,7 +17,7 @@ use Rattle.form.specs.Form.{Syllable, HT, SHT, Parts, Form, form-text, front-te
 use Rattle.form.specs.Count.{t-count}
 use Rattle.form.proofs.Count.{t-count-append, t-count-syllable}
 use Rattle.form.proofs.Spelled.{form-is-letters}
-use Rattle.extend.proofs.Exists.{form-exists}
+use Rattle.extend_form.proofs.Exists.{form-exists}
 use Rattle.complete.proofs.Complete.{complete}
 use Rattle.rotation.specs.Rotation.{Axis, Least-exponent, Leftmost, third-for-T, first-for-HT, second-for-SHT}
 use Rattle.rotation.proofs.Entries.{least-exponent-of-same, row-zero-from-same}

@@ -2,8 +2,8 @@
 -- forms is that of the strings. Assumes nothing.
 use borrow.Author.Needs.{needs}
 use mathlib.Core.Path.{subst}
-use Rattle.spell.specs.Spell.{Spelled-form, Spells-string}
-use Rattle.compare.specs.Compare.{first-refused, second-refused, compared}
+use Rattle.normalise.specs.Normalise.{Spelled-form, Spells-string}
+use Rattle.compare.specs.Promise.{first-refused, second-refused, compared}
 use Rattle.compare.proofs.Related.{related-carried}
 use Rattle.compare.proofs.compare.Statement.{statement}
 use Rattle.compare.proofs.compare.Tie as tie

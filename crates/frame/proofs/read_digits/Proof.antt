@@ -4,9 +4,9 @@ use native.Mathlib.Omega.{arith}
 use borrow.Author.Needs.{needs}
 use lib.ListN.{length}
 use lib.Seq.{length-take-le}
-use Rattle.whole.proofs.List.{every-take}
+use Rattle.algebra.proofs.List.{every-take}
 use Rattle.answer.specs.Limits.{check-word-place}
-use Rattle.accept.specs.Accept.{Judged}
+use Rattle.accept_record.specs.Accept.{Judged}
 use Rattle.frame.specs.Frame.{check-word, Spells}
 use Rattle.frame.specs.Calls.{refused-frame, accepted-frame, bad-check-word, bad-record}
 use Rattle.frame.proofs.Parts.{part-digits, part-length, frame-parts}

@@ -1,3 +1,0 @@
-pub mod Gates
-pub mod Descends
-pub mod Letters
