@@ -2,7 +2,7 @@
 -- Assumes nothing.
 use mathlib.Core.Path.{_≡_, refl, ap}
 use native.Mathlib.Omega.{arith}
-use Rattle.algebra.proofs.List.{passes-or-fails, fails-once}
+use Rattle.lists.proofs.List.{passes-or-fails, fails-once}
 use Rattle.matrix.specs.declared.Matrix.{Matrix}
 use Rattle.answer.specs.declared.Refusal.{Refusal}
 use Rattle.answer.specs.declared.Refusal.the-variants.{WideCoefficient}

@@ -1,4 +1,3 @@
-pub mod Record
 pub mod Limits
 pub mod Sizes
 pub mod Within

@@ -9,7 +9,7 @@ use lib.Dec.{leb, ltb}
 use lib.IntN.{ℤ, pos, negsuc, negℤ}
 use lib.ListN.{length}
 use lib.Signed.{ltZ, leZ}
-use Rattle.algebra.proofs.List.{fails-within}
+use Rattle.lists.proofs.List.{fails-within}
 use Rattle.ring.specs.Bounds.{Bounded}
 use Rattle.answer.specs.Limits.{coefficient-limit}
 use Rattle.accept_record.specs.Accept.{in-limit, In-limits, First-wide}

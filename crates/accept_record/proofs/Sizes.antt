@@ -3,13 +3,14 @@ use Prim.Native.Nat.{_^_}
 use mathlib.Core.List.{List, _∷_}
 use lib.Dec.{lit≤}
 use lib.IntN.{ℤ}
-use Rattle.algebra.proofs.List.{every-first, every-rest}
+use Rattle.lists.proofs.List.{every-first, every-rest}
 use Rattle.ring.specs.declared.Element.{Element}
 use Rattle.ring.specs.Bounds.{Bounded, Small}
 use Rattle.ring.proofs.Bounds.{small-more, small-sum, small-conjugate, small-product}
 use Rattle.matrix.specs.declared.Matrix.{Matrix}
 use Rattle.answer.specs.Limits.{coefficient-limit}
-use Rattle.accept_record.specs.Accept.{In-limits, coefficients, Inside}
+use Rattle.accept_record.specs.Accept.{In-limits, Inside}
+use Rattle.coefficients.specs.Coefficients.{coefficients}
 use Rattle.accept_record.specs.Column.{column-product}
 use Rattle.accept_record.proofs.Limits.{bounded-in-limit}
 

@@ -6,14 +6,15 @@ use Prim.Native.Nat.{_≤_}
 use native.Mathlib.Omega.{arith}
 use borrow.Author.Tests.{le-leb}
 use lib.IntN.{ℤ, pos, negsuc}
-use Rattle.algebra.specs.List.{none, more}
+use Rattle.lists.specs.List.{none, more}
 use Rattle.ring.specs.declared.Element.{Element}
 use Rattle.ring.specs.Bounds.{Bounded, Small}
 use Rattle.matrix.specs.declared.Matrix.{Matrix}
 use Rattle.matrix.specs.Matrix.{Unitary}
 use Rattle.matrix.proofs.Small.{unitary-is-small}
 use Rattle.answer.specs.Limits.{exponent-limit, coefficient-limit}
-use Rattle.accept_record.specs.Accept.{coefficients, in-limit, In-limits, Inside}
+use Rattle.coefficients.specs.Coefficients.{coefficients}
+use Rattle.accept_record.specs.Accept.{in-limit, In-limits, Inside}
 
 -- a number that is bounded by the limit is in it
 in-limit-bounded : (z : ℤ) → Bounded coefficient-limit z → in-limit z ≡ true

@@ -4,23 +4,15 @@ use mathlib.Core.List.{List, [], _∷_}
 use mathlib.Core.Bool.{Bool, _&&_}
 use lib.IntN.{ℤ, pos, negℤ}
 use lib.Signed.{leZ}
-use Rattle.algebra.specs.List.{All-pass, First-failing}
+use Rattle.lists.specs.List.{All-pass, First-failing}
 use Rattle.matrix.specs.declared.Matrix.{Matrix}
 use Rattle.matrix.specs.Matrix.{Unitary}
+use Rattle.coefficients.specs.Coefficients.{coefficients}
 use Rattle.answer.specs.declared.Refusal.{Refusal}
 use Rattle.answer.specs.declared.Refusal.the-variants.{HighExponent, WideCoefficient, NotUnitary}
 use Rattle.answer.specs.Limits.{exponent-limit, coefficient-limit}
 use Rattle.accept_record.specs.declared.Judgement.{Judgement}
 use Rattle.accept_record.specs.declared.Judgement.the-variants.{Accepted, Refused}
-
--- the sixteen coefficients, "index 0 to 15": top left, top right, bottom left, bottom right, each a0, a1, a2, a3
-unfoldable pub coefficients : Matrix → List ℤ
-coefficients m =
-    m .top .left .a0 ∷ m .top .left .a1 ∷ m .top .left .a2 ∷ m .top .left .a3
-    ∷ m .top .right .a0 ∷ m .top .right .a1 ∷ m .top .right .a2 ∷ m .top .right .a3
-    ∷ m .bottom .left .a0 ∷ m .bottom .left .a1 ∷ m .bottom .left .a2 ∷ m .bottom .left .a3
-    ∷ m .bottom .right .a0 ∷ m .bottom .right .a1 ∷ m .bottom .right .a2 ∷ m .bottom .right .a3
-    ∷ []
 
 -- "each coefficient from −1,048,576 to 1,048,576"
 unfoldable pub in-limit : ℤ → Bool

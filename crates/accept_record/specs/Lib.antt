@@ -1,4 +1,3 @@
 pub mod Accept
-pub mod Record
 pub mod Wide
 pub mod Column

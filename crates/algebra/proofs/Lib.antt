@@ -4,4 +4,3 @@ pub mod Solver
 pub mod Hom
 pub mod Parity
 pub mod Cancellation
-pub mod List

@@ -8,6 +8,7 @@ use Prim.Native.Nat.{ℕ, zero, suc, _+_, _/_, _%_, _<_}
 use native.Mathlib.Omega.{arith}
 use lib.Dec.{eqb}
 use lib.IntN.{ℤ, pos, negsuc, sucℤ, predℤ, _+ℤ_, _*ℤ_, negℤ, +ℤ-idl, sucℤ-+ℤ, predℤ-+ℤ, sucℤ-*ℤ, predℤ-*ℤ, zero-*ℤ, suc-pred}
+use Rattle.algebra.specs.Parity.{odd-natural, odd, half}
 use Rattle.algebra.proofs.Ring.{Ring}
 use Rattle.algebra.proofs.Whole.{whole, up-and-down}
 use Rattle.algebra.proofs.Solver.{Expr, value}
@@ -17,15 +18,6 @@ use Rattle.algebra.proofs.Hom.{Hom, value-hom}
 abbrev pub differ : Bool → Bool → Bool
 differ false b = b
 differ true b = not b
-
--- A natural number is odd
-abbrev pub odd-natural : ℕ → Bool
-odd-natural n = eqb (n % 2) 1
-
--- An integer is odd: -(n + 1) is where n is not
-abbrev pub odd : ℤ → Bool
-odd (pos n) = odd-natural n
-odd (negsuc n) = not (odd-natural n)
 
 -- ---- the laws of two bits
 -- The sum of two bits is associative
@@ -181,11 +173,6 @@ odd-equation values left right e = sym (odd-value values left) ∙ ap odd e ∙ 
 -- A double is even
 pub odd-double : (z : ℤ) → odd (z +ℤ z) ≡ false
 odd-double z = odd-plus z z ∙ differ-same (odd z)
-
--- Half of an integer, rounded down
-abbrev pub half : ℤ → ℤ
-half (pos n) = pos (n / 2)
-half (negsuc n) = negsuc (n / 2)
 
 -- A natural number that is not odd leaves no remainder
 even-remainder : (n : ℕ) → odd-natural n ≡ false → n % 2 ≡ 0

@@ -3,7 +3,7 @@ use mathlib.Core.Path.{_≡_, refl, ap}
 use mathlib.Core.List.{List}
 use Prim.Native.Nat.{ℕ}
 use native.Mathlib.Omega.{arith}
-use Rattle.algebra.proofs.List.{passes-or-fails, fails-once}
+use Rattle.lists.proofs.List.{passes-or-fails, fails-once}
 use Rattle.answer.specs.declared.Refusal.{Refusal}
 use Rattle.answer.specs.declared.Refusal.the-variants.{BadLetter}
 use Rattle.alphabet.specs.String.{Accepted-string, Refused-string, too-long, bad-letter}

@@ -1,13 +1,8 @@
 // The letter test, for every reader of letters: is a byte a letter, and where does a text first hold a byte that is none.
 ghost use mathlib.Core.Path.{_≡_};
 ghost use Rattle.matrix.specs.Letter.{is-letter};
-ghost use Rattle.alphabet.specs.Found.{Finds};
-
-// What a search for a bad letter finds.
-pub enum Found {
-    Bad(usize),
-    Nothing,
-}
+ghost use Rattle.lists.specs.Found.{Finds};
+use lists::Found;
 
 pub fn is_letter(b: u8) -> bool
     ensures { λ r. ⌜ r ≡ is-letter b ⌝ }
@@ -31,14 +26,14 @@ pub fn is_letter(b: u8) -> bool
 
 // The first place of a byte outside the letters.
 pub fn first_bad(text: &[u8]) -> Found
-    ensures { λ r. ⌜ Finds (now (text .entry)) r ⌝ }
+    ensures { λ r. ⌜ Finds is-letter (now (text .entry)) r ⌝ }
 {
     let mut i = 0;
     while i < text.len() {
         if !is_letter(text[i]) {
-            return Found::Bad(i);
+            return Found::First(i);
         }
         i += 1;
     }
-    Found::Nothing
+    Found::Absent
 }

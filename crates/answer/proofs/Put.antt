@@ -1,11 +1,13 @@
 -- What a form written into a lent buffer, or refused for want of room, says of the answer and of every lent byte: shown
 -- once, for all calls that write a form. Assumes nothing.
-use mathlib.Core.Path.{_≡_, refl}
-use mathlib.Core.List.{List}
+use mathlib.Core.Path.{_≡_, refl, ap, _∙_}
+use mathlib.Core.List.{List, _++_}
 use Prim.Native.Nat.{ℕ, _≤_}
+use native.Mathlib.Nat.{zero-add}
 use native.Mathlib.Omega.{arith}
 use lib.ListN.{length, take, drop}
 use lib.Seq.{take-at, drop-at}
+use Rattle.place.specs.Place.{put-at, Placed}
 use Rattle.answer.specs.declared.Figures.{Figures}
 use Rattle.answer.specs.Refusal.{Said, accepted, refused}
 use Rattle.answer.specs.Written.{figures-of, put, Put-form, no-room, room}
@@ -37,3 +39,8 @@ put-once (no-room h) (no-room h') = (refl, refl)
 put-once (no-room h) (room h') = absurd (omega arith)
 put-once (room h) (no-room h') = absurd (omega arith)
 put-once (room h) (room h') = (refl, refl)
+
+-- "the answer stands at the start of the buffer and the bytes after it stay"
+pub placed-at-start : {next : ℕ} {f before after : List ℕ} → Placed 0 f before next after → after ≡ put f before
+unfolding put-at put
+placed-at-start {f = f} {before = before} p = p .written ∙ ap (λ (n : ℕ). f ++ drop n before) (zero-add (length f))

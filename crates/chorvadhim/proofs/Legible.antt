@@ -4,7 +4,7 @@ use Prim.Native.Nat.{ℕ, _≤_}
 use native.Mathlib.Omega.{arith}
 use mathlib.Core.List.{List}
 use lib.ListN.{length}
-use Rattle.algebra.proofs.List.{fails-within}
+use Rattle.lists.proofs.List.{fails-within}
 use Rattle.matrix.specs.declared.Matrix.{Matrix}
 use Rattle.form.proofs.Count.{t-count-within, h-count-within}
 use Rattle.answer.specs.declared.Figures.{Figures}

@@ -8,7 +8,7 @@ use lib.IntN.{ℤ}
 use Rattle.matrix.specs.declared.Matrix.{Matrix}
 use Rattle.answer.specs.declared.Figures.{Figures}
 use Rattle.answer.specs.Refusal.{Said, accepted, refused}
-use Rattle.accept_record.proofs.Record.{coefficients-once}
+use Rattle.coefficients.proofs.ReadBack.{coefficients-once}
 use Rattle.read_form.specs.declared.Reading.{Reading}
 use Rattle.compare.specs.declared.Which.{Which}
 use Rattle.compare.specs.declared.Which.the-variants.{First, Second}

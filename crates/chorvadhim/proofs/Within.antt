@@ -4,7 +4,7 @@ use Prim.Native.Nat.{ℕ, _≤_, _<_}
 use native.Mathlib.Omega.{arith}
 use mathlib.Core.List.{List}
 use lib.ListN.{length}
-use Rattle.algebra.proofs.List.{fails-within}
+use Rattle.lists.proofs.List.{fails-within}
 use Rattle.matrix.specs.declared.Matrix.{Matrix}
 use Rattle.matrix.specs.Matrix.{Same}
 use Rattle.matrix.specs.Letter.{matrix-of}
@@ -12,7 +12,8 @@ use Rattle.matrix.proofs.Same.{same-refl, same-sym, same-trans}
 use Rattle.form.specs.Form.{Form, Form-of}
 use Rattle.answer.specs.Limits.{form-limit, frame-length}
 use Rattle.alphabet.specs.String.{Accepted-string}
-use Rattle.accept_record.specs.Accept.{coefficients, First-wide, Accepted-record}
+use Rattle.coefficients.specs.Coefficients.{coefficients}
+use Rattle.accept_record.specs.Accept.{First-wide, Accepted-record}
 use Rattle.frame.specs.Calls.{Bad-frame}
 use Rattle.extend_form.proofs.Exists.{form-length}
 use Rattle.form.proofs.Count.{t-count-within}

@@ -6,8 +6,7 @@ use lib.IntN.{ℤ}
 use Rattle.answer.specs.declared.Figures.{Figures}
 use Rattle.answer.specs.Refusal.{Said, accepted, refused}
 use Rattle.matrix.specs.declared.Matrix.{Matrix}
-use Rattle.accept_record.specs.Accept.{coefficients}
-use Rattle.accept_record.specs.Record.{record-of}
+use Rattle.coefficients.specs.Coefficients.{coefficients, record-of}
 use Rattle.string_to_form.specs.Promise.{String-to-form}
 use Rattle.matrix_to_form.specs.Promise.{Matrix-to-form}
 use Rattle.frame_to_form.specs.Promise.{Frame-to-form}

@@ -13,7 +13,7 @@ ghost use mathlib.Core.Path.{_≡_};
 ghost use Rattle.answer.specs.Refusal.{number, place};
 ghost use Rattle.answer.specs.Returned.{said as said-returned};
 ghost use Rattle.answer.specs.Written.{said};
-ghost use Rattle.accept_record.specs.Accept.{coefficients};
+ghost use Rattle.coefficients.specs.Coefficients.{coefficients};
 ghost use Rattle.read_form.specs.Promise.{said as said-read};
 ghost use Rattle.compare.specs.Promise.{verdict};
 ghost use Rattle.frame.specs.Calls.{said-stored};
@@ -121,7 +121,7 @@ fn put_record(m: Matrix, lent: &mut [i64; 16]) -> u64
     ensures { λ r. ⌜ r ≡ record-word m ⌝ }
     ensures { λ _. ⌜ now (lent .exit) ≡ coefficients m ⌝ }
 {
-    *lent = accept_record::coefficients(m);
+    *lent = coefficients::coefficients(m);
     BIT_8 * (m.exponent as u64)
 }
 
@@ -152,7 +152,7 @@ pub extern "C" fn chorvadhim_matrix_to_form(
 ) -> u64
     ensures { λ r. ⌜ Matrix-to-form-word exponent (now (coefficients .entry)) (now (buffer .entry)) r (now (buffer .exit)) ⌝ }
 {
-    let m = accept_record::record_of(exponent, coefficients);
+    let m = coefficients::record_of(exponent, coefficients);
     written_word(matrix_to_form::matrix_to_form(m, buffer))
 }
 
@@ -199,6 +199,6 @@ pub extern "C" fn chorvadhim_matrix_to_frame(
 ) -> u64
     ensures { λ r. ⌜ Matrix-to-frame-word exponent (now (coefficients .entry)) (now (buffer .entry)) r (now (buffer .exit)) ⌝ }
 {
-    let m = accept_record::record_of(exponent, coefficients);
+    let m = coefficients::record_of(exponent, coefficients);
     stored_word(frame::matrix_to_frame(m, buffer))
 }

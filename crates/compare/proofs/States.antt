@@ -9,11 +9,11 @@ use Rattle.matrix.proofs.Same.{same-of-equal}
 use Rattle.form.specs.Tail.{tail-text}
 use Rattle.form.proofs.Count.{t-count-tail}
 use Rattle.form.proofs.Grammar.{tails-distinct}
-use Rattle.extend_form.specs.declared.State.{State}
-use Rattle.extend_form.specs.State.{codes-text, used, state-text, Spells}
-use Rattle.extend_form.proofs.Spelling.{codes-form}
-use Rattle.extend_form.proofs.Stack.{length-used}
-use Rattle.extend_form.proofs.Known.{codes-known}
+use Rattle.stack.specs.declared.State.{State}
+use Rattle.stack.specs.State.{codes-text, used, state-text, Well-formed}
+use Rattle.stack.proofs.Spelling.{codes-form}
+use Rattle.stack.proofs.Used.{length-used}
+use Rattle.stack.proofs.Known.{codes-known}
 use Rattle.unique.proofs.Unique.{forms-are-unique}
 use Rattle.compare.specs.Promise.{same, phase, different, Phase-apart, Related, equal, apart, unlike}
 use Rattle.compare.proofs.Phase.{with-Ws, with-Ws-in-tails, phased-text}
@@ -35,8 +35,8 @@ module _ (stack stack′ : List ℕ) (state state′ : State) where
       (ap₂ (λ (codes : List ℕ) (n : ℕ). matrix-of (codes-text codes ++ tail-text n)) (agree .codes) (agree .tail)
       ∙ sym (phased-text (codes-text (used stack′ (state′ .count))) (state′ .tail) j))
 
-  -- by uniqueness the texts are equal, and a text is spelled in one way
-  agree-when-apart : Spells stack state → Spells stack′ state′ → (j : ℕ) →
+  -- by uniqueness the texts are equal, and a text is normalised in one way
+  agree-when-apart : Well-formed stack state → Well-formed stack′ state′ → (j : ℕ) →
       Phase-apart (state-text stack state) (state-text stack′ state′) j → Agree stack state stack′ state′ j
   unfolding state-text
   agree-when-apart good good′ j s =
@@ -57,6 +57,6 @@ module _ (stack stack′ : List ℕ) (state state′ : State) where
   pub apart-states : (j : ℕ) → 1 ≤ j → j ≤ 7 → Agree stack state stack′ state′ j → Related (state-text stack state) (state-text stack′ state′) (phase j)
   apart-states j low high agree = apart low high (apart-when-agree j agree)
 
-  pub unlike-states : Spells stack state → Spells stack′ state′ → ((j : ℕ) → Agree stack state stack′ state′ j → ⊥) →
+  pub unlike-states : Well-formed stack state → Well-formed stack′ state′ → ((j : ℕ) → Agree stack state stack′ state′ j → ⊥) →
       Related (state-text stack state) (state-text stack′ state′) different
   unlike-states good good′ none = unlike (λ j s. none j (agree-when-apart good good′ j s))

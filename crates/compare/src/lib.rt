@@ -1,15 +1,15 @@
 // Comparison of two strings: same, a phase apart, or different.
 use answer::Refusal;
 use answer::STRING_LIMIT;
-use extend_form::State;
-use normalise::Spelled;
+use normalise::Normalised;
+use stack::State;
 ghost use Prim.Native.Nat.{_+_, _%_, _≤_, _<_};
 ghost use mathlib.Core.Bool.{true};
 ghost use mathlib.Core.Logic.{_↔_};
 ghost use mathlib.Core.Path.{_≡_};
 ghost use lib.ListN.{length};
 ghost use Rattle.form.specs.Tail.{tail-a};
-ghost use Rattle.extend_form.specs.State.{used, state-text, Spells};
+ghost use Rattle.stack.specs.State.{used, state-text, Well-formed};
 ghost use Rattle.compare.specs.Promise.{verdict, Related, Compare};
 
 // The string that a refusal concerns.
@@ -26,12 +26,12 @@ pub enum Compared {
 }
 
 // A refusal with the string that it concerns. A form has none, and is not asked for one.
-fn refused(which: Which, spelled: Spelled) -> Compared
-    ensures { λ r. ⌜ ((refusal : Refusal) → spelled ≡ Spelled.Refused refusal → r ≡ Compared.Refused which refusal) ⌝ }
+fn refused(which: Which, normalised: Normalised) -> Compared
+    ensures { λ r. ⌜ ((refusal : Refusal) → normalised ≡ Normalised.Refused refusal → r ≡ Compared.Refused which refusal) ⌝ }
 {
-    match spelled {
-        Spelled::Refused(refusal) => Compared::Refused { which, refusal },
-        Spelled::Form(_) => Compared::Different,
+    match normalised {
+        Normalised::Refused(refusal) => Compared::Refused { which, refusal },
+        Normalised::Form(_) => Compared::Different,
     }
 }
 
@@ -60,8 +60,8 @@ fn between(from: u8, to: u8) -> usize
 
 // Two forms, as stacks and states spell them: a phase changes nothing but the last three bits of the tail.
 fn relation(first: &[u8; STRING_LIMIT], a: State, second: &[u8; STRING_LIMIT], b: State) -> Compared
-    requires { ⌜ Spells (now first) a ⌝ }
-    requires { ⌜ Spells (now second) b ⌝ }
+    requires { ⌜ Well-formed (now first) a ⌝ }
+    requires { ⌜ Well-formed (now second) b ⌝ }
     ensures { λ r. ⌜ Related (state-text (now (first .entry)) a) (state-text (now (second .entry)) b) (verdict r) ⌝ }
 {
     if a.count != b.count {
@@ -86,14 +86,14 @@ pub fn compare(first: &[u8], second: &[u8]) -> Compared
 {
     let products = tail::products();
     let mut first_stack = normalise::empty_stack();
-    let first_spelled = normalise::spell(&products, &mut first_stack, first);
-    let Spelled::Form(a) = first_spelled else {
-        return refused(Which::First, first_spelled);
+    let first_normalised = normalise::normalise(&products, &mut first_stack, first);
+    let Normalised::Form(a) = first_normalised else {
+        return refused(Which::First, first_normalised);
     };
     let mut second_stack = normalise::empty_stack();
-    let second_spelled = normalise::spell(&products, &mut second_stack, second);
-    let Spelled::Form(b) = second_spelled else {
-        return refused(Which::Second, second_spelled);
+    let second_normalised = normalise::normalise(&products, &mut second_stack, second);
+    let Normalised::Form(b) = second_normalised else {
+        return refused(Which::Second, second_normalised);
     };
     relation(&first_stack, a, &second_stack, b)
 }

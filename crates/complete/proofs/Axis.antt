@@ -8,7 +8,8 @@ use native.Mathlib.Omega.{arith}
 use lib.IntN.{ℤ, pos, negsuc, negℤ}
 use lib.Dec.{leb·suc-zero}
 use lib.Signed.{ltZ}
-use Rattle.algebra.proofs.Parity.{odd, odd-times, odd-negate}
+use Rattle.algebra.specs.Parity.{odd}
+use Rattle.algebra.proofs.Parity.{odd-times, odd-negate}
 use Rattle.algebra.proofs.Cancellation.{square-size, square-zero}
 use Rattle.matrix.specs.Letter.{H, S, X}
 use Rattle.matrix.proofs.Small.{square}

@@ -8,8 +8,8 @@ use native.Mathlib.Omega.{arith}
 use lib.Dec.{eqb}
 use lib.IntN.{pos, _+ℤ_, _-ℤ_}
 use lib.ListN.{replicate}
-use Rattle.algebra.specs.List.{none, more}
-use Rattle.algebra.proofs.List.{every-join, every-replicate}
+use Rattle.lists.specs.List.{none, more}
+use Rattle.lists.proofs.List.{every-join, every-replicate}
 use Rattle.algebra.proofs.Solver.{var, con, _⊕_, _⊗_, ⊖_, combine, given, done}
 use Rattle.ring.specs.declared.Element.{Element}
 use Rattle.ring.specs.Element.{one, omega2, sum, product, multiple, turned, negation, conjugate, size-whole, size-root2, root2-power}

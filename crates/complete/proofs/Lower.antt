@@ -7,7 +7,8 @@ use Prim.Native.Nat.{ℕ, suc}
 use lib.IntN.{ℤ, pos, _+ℤ_, _-ℤ_, negℤ}
 use Rattle.algebra.proofs.Whole.{whole}
 use Rattle.algebra.proofs.Solver.{var, con, _⊕_, _⊗_, ⊖_, solve, combine, given, done}
-use Rattle.algebra.proofs.Parity.{odd, differ, differ-same, half, even-half, odd-plus, odd-negate}
+use Rattle.algebra.specs.Parity.{odd, half}
+use Rattle.algebra.proofs.Parity.{differ, differ-same, even-half, odd-plus, odd-negate}
 use Rattle.algebra.proofs.Cancellation.{double-cancel}
 use Rattle.ring.specs.declared.Element.{Element}
 use Rattle.ring.specs.Element.{element, one, omega as ω, omega2, root2, sum, product, multiple, turned, negation, conjugate, root2-power}

@@ -10,7 +10,8 @@ use native.Mathlib.Omega.{arith}
 use lib.IntN.{natAbs, ℤ, pos, _+ℤ_, _*ℤ_, negℤ}
 use Rattle.algebra.proofs.Whole.{whole}
 use Rattle.algebra.proofs.Solver.{Expr, var, con, _⊕_, _⊗_, ⊖_, value, combine, given, done}
-use Rattle.algebra.proofs.Parity.{odd, differ, odd-equation}
+use Rattle.algebra.specs.Parity.{odd}
+use Rattle.algebra.proofs.Parity.{differ, odd-equation}
 use Rattle.algebra.proofs.Cancellation.{double-cancel, square-size}
 use Rattle.ring.specs.declared.Element.{Element}
 use Rattle.ring.specs.Element.{element, omega2, sum, product, multiple, turned, conjugate}

@@ -11,7 +11,8 @@ use lib.IntN.{ℤ, pos, negsuc, _+ℤ_, natAbs}
 use lib.Dec.{lit<, leb·zero, leb·suc-suc, eqb, eqb→eq, T as Holds}
 use lib.Signed.{ltZ}
 use Rattle.algebra.proofs.Solver.{var, con, _⊕_, _⊗_, ⊖_, solve}
-use Rattle.algebra.proofs.Parity.{odd, differ, odd-equation}
+use Rattle.algebra.specs.Parity.{odd}
+use Rattle.algebra.proofs.Parity.{differ, odd-equation}
 use Rattle.algebra.proofs.Cancellation.{square-size, square-zero}
 use Rattle.ring.specs.declared.Element.{Element}
 use Rattle.ring.specs.Element.{element, one, omega as ω, root2, sum, product, multiple, turned, conjugate, size-whole, size-root2, root2-power}

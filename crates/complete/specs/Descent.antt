@@ -7,7 +7,7 @@ use mathlib.Core.List.{List, [], _∷_, _++_}
 use lib.IntN.{ℤ, pos, _-ℤ_, negℤ}
 use lib.Signed.{ltZ}
 use lib.ListN.{replicate}
-use Rattle.algebra.proofs.Parity.{odd}
+use Rattle.algebra.specs.Parity.{odd}
 use Rattle.ring.specs.declared.Element.{Element}
 use Rattle.ring.specs.Element.{element, sum}
 use Rattle.matrix.specs.declared.Matrix.{Matrix}

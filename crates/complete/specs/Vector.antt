@@ -3,7 +3,7 @@
 use Prim.Native.Nat.{ℕ}
 use mathlib.Core.Path.{_≡_}
 use lib.IntN.{ℤ, pos, _+ℤ_, _-ℤ_, negℤ}
-use Rattle.algebra.proofs.Parity.{half}
+use Rattle.algebra.specs.Parity.{half}
 use Rattle.ring.specs.declared.Element.{Element}
 use Rattle.ring.specs.Element.{element, omega2, sum, negation, product, conjugate, size-whole, size-root2, root2-power}
 use Rattle.matrix.specs.declared.Matrix.{Matrix}

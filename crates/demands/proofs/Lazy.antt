@@ -6,8 +6,8 @@ use mathlib.Core.List.{List, [], _∷_}
 use Prim.Native.Nat.{ℕ, _<_, _≤_, zero-le, suc-le-suc}
 use native.Mathlib.Omega.{arith}
 use lib.ListN.{length}
-use Rattle.algebra.specs.List.{none, more}
-use Rattle.algebra.proofs.List.{every-first, every-rest}
+use Rattle.lists.specs.List.{none, more}
+use Rattle.lists.proofs.List.{every-first, every-rest}
 use Rattle.ring.specs.Element.{one, negation}
 use Rattle.matrix.specs.declared.Matrix.{Matrix}
 use Rattle.matrix.specs.Matrix.{Same}
@@ -26,7 +26,8 @@ use Rattle.answer.specs.Refusal.{Said, accepted, refused}
 use Rattle.answer.specs.Written.{figures-of, put, room}
 use Rattle.answer.proofs.Told.{accepted-is-not-refused}
 use Rattle.alphabet.specs.String.{Accepted-string}
-use Rattle.accept_record.specs.Accept.{Accepted-record, coefficients, in-limit}
+use Rattle.accept_record.specs.Accept.{Accepted-record, in-limit}
+use Rattle.coefficients.specs.Coefficients.{coefficients}
 use Rattle.string_to_form.specs.Promise.{with-form}
 use Rattle.matrix_to_form.specs.Promise as Matrix-to-form-rules
 use Rattle.demands.specs.Input.{Input, a-string, a-record, Promised, of-string, of-record, Accepted}

@@ -3,7 +3,7 @@ ghost use mathlib.Core.Bool.{_&&_};
 ghost use mathlib.Core.Path.{_≡_};
 ghost use Prim.Native.Nat.{_^_};
 ghost use lib.IntN.{_+ℤ_, _-ℤ_};
-ghost use Rattle.algebra.proofs.Parity.{odd};
+ghost use Rattle.algebra.specs.Parity.{odd};
 ghost use Rattle.ring.specs.Element.{size-whole, size-root2};
 ghost use Rattle.ring.specs.Bounds.{Small};
 ghost use Rattle.complete.specs.Vector.{number, vector-of};

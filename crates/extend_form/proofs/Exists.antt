@@ -8,7 +8,7 @@ use mathlib.Core.Path.{_≡_, refl}
 use borrow.Author.Tests.{eqb-true, eqb-false}
 use lib.Dec.{eqb, lit<}
 use lib.ListN.{length}
-use Rattle.algebra.specs.List.{none, more}
+use Rattle.lists.specs.List.{none, more}
 use Rattle.matrix.specs.Letter.{T, Letters, is-letter}
 use Rattle.form.specs.Tail.{tails, tail-h, head-text, tail-text}
 use Rattle.form.specs.Form.{Form, Form-of}
@@ -17,8 +17,9 @@ use Rattle.form.proofs.Count.{t-count-within, form-is-short}
 use Rattle.tail.proofs.Columns.{column-found}
 use Rattle.tail.proofs.Closure.{product-is-tail}
 use Rattle.tail.proofs.Passing.{passed, joined, passed-T, joined-T}
-use Rattle.extend_form.specs.State.{Codes, no-codes, front, HT-above, SHT-above, codes-text, Extends}
-use Rattle.extend_form.proofs.Spelling.{codes-form}
+use Rattle.stack.specs.State.{Codes, no-codes, front, HT-above, SHT-above, codes-text}
+use Rattle.extend_form.specs.Extend.{Extends}
+use Rattle.stack.proofs.Spelling.{codes-form}
 use Rattle.extend_form.proofs.Step.{tail-multiplied, code-pushed, code-popped, extends-none, extends-more}
 
 -- codes and a tail that extend others by a letter

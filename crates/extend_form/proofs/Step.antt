@@ -12,9 +12,10 @@ use Rattle.form.specs.Tail.{tail-h, head-text, tail-text}
 use Rattle.form.specs.Count.{t-count}
 use Rattle.form.proofs.Count.{t-count-append}
 use Rattle.tail.specs.Product.{Product, Past-T, Between-T}
-use Rattle.extend_form.specs.State.{codes-text, Extends}
+use Rattle.stack.specs.State.{codes-text}
+use Rattle.extend_form.specs.Extend.{Extends}
 use Rattle.extend_form.proofs.Append.{same-after, same-before}
-use Rattle.extend_form.proofs.Spelling.{t-count-spelled, headed-tail}
+use Rattle.stack.proofs.Spelling.{t-count-spelled, headed-tail}
 
 -- texts of equal meaning, each told by another spelling
 respelled : {s s' t t' : List ℕ} → s ≡ s' → t ≡ t' → Same (matrix-of s) (matrix-of t) → Same (matrix-of s') (matrix-of t')

@@ -7,16 +7,12 @@ ghost use lib.ListN.{length};
 ghost use Rattle.matrix.specs.Letter.{T, is-letter};
 ghost use Rattle.form.specs.Tail.{tail-h};
 ghost use Rattle.tail.specs.Product.{Product-table};
-ghost use Rattle.extend_form.specs.State.{Codes, used, Fresh, Spells, Extended, Takes};
+ghost use Rattle.stack.specs.State.{Codes, used, Well-formed};
+ghost use Rattle.extend_form.specs.Extend.{Fresh, Extended, Extends-by-text};
+use stack::State;
 
-// A form as the step keeps it, beside the lent stack: how many codes are in use, and the tail's number.
-pub struct State {
-    pub count: usize,
-    pub tail: u8,
-}
-
-// What taking a text gives: the first bad place, or the state after all of its letters.
-pub enum Taken {
+// What extending by a text gives: the first bad place, or the state after all of its letters.
+pub enum Extension {
     Bad(usize),
     Whole(State),
 }
@@ -30,7 +26,7 @@ pub fn fresh() -> State
 
 // T, pushed as a code with the tail's head.
 fn push(stack: &mut [u8], state: State) -> State
-    requires { ⌜ Spells (now stack) state ⌝ }
+    requires { ⌜ Well-formed (now stack) state ⌝ }
     requires { ⌜ state .count < length (now stack) ⌝ }
     requires { ⌜ Codes (tail-h (state .tail) ∷ used (now stack) (state .count)) ⌝ }
     ensures { λ r. ⌜ Extended (now (stack .entry)) state (T ∷ []) (now (stack .exit)) r ⌝ }
@@ -46,7 +42,7 @@ fn push(stack: &mut [u8], state: State) -> State
 
 // T, joined with the T of the last code, whose head begins the tail.
 fn join(stack: &[u8], state: State) -> State
-    requires { ⌜ Spells (now stack) state ⌝ }
+    requires { ⌜ Well-formed (now stack) state ⌝ }
     requires { ⌜ 0 < state .count ⌝ }
     requires { ⌜ tail-h (state .tail) ≡ 0 ⌝ }
     ensures { λ r. ⌜ Extended (now (stack .entry)) state (T ∷ []) (now (stack .entry)) r ⌝ }
@@ -60,7 +56,7 @@ fn join(stack: &[u8], state: State) -> State
 }
 
 fn by_t(stack: &mut [u8], state: State) -> State
-    requires { ⌜ Spells (now stack) state ⌝ }
+    requires { ⌜ Well-formed (now stack) state ⌝ }
     requires { ⌜ state .count < length (now stack) ⌝ }
     ensures { λ r. ⌜ Extended (now (stack .entry)) state (T ∷ []) (now (stack .exit)) r ⌝ }
 {
@@ -76,7 +72,7 @@ fn by_t(stack: &mut [u8], state: State) -> State
 // The form extended by a letter, in constant work. Where a T comes, the stack must have room for a code.
 pub fn by_letter(products: &[u8; 1152], stack: &mut [u8], state: State, letter: u8) -> State
     requires { ⌜ Product-table (now products) ⌝ }
-    requires { ⌜ Spells (now stack) state ⌝ }
+    requires { ⌜ Well-formed (now stack) state ⌝ }
     requires { ⌜ state .count < length (now stack) ⌝ }
     requires { ⌜ is-letter letter ≡ true ⌝ }
     ensures { λ r. ⌜ Extended (now (stack .entry)) state (letter ∷ []) (now (stack .exit)) r ⌝ }
@@ -91,21 +87,21 @@ pub fn by_letter(products: &[u8; 1152], stack: &mut [u8], state: State, letter: 
 }
 
 // The form extended by the letters of a text, in one pass, up to a byte that is none.
-pub fn by_text(products: &[u8; 1152], stack: &mut [u8], start: State, text: &[u8]) -> Taken
+pub fn by_text(products: &[u8; 1152], stack: &mut [u8], start: State, text: &[u8]) -> Extension
     requires { ⌜ Product-table (now products) ⌝ }
-    requires { ⌜ Spells (now stack) start ⌝ }
+    requires { ⌜ Well-formed (now stack) start ⌝ }
     requires { ⌜ start .count + length (now text) ≤ length (now stack) ⌝ }
-    ensures { λ r. ⌜ Takes (now (stack .entry)) start (now (text .entry)) (now (stack .exit)) r ⌝ }
+    ensures { λ r. ⌜ Extends-by-text (now (stack .entry)) start (now (text .entry)) (now (stack .exit)) r ⌝ }
 {
     let mut state = start;
     let mut i = 0;
     while i < text.len() {
         let letter = text[i];
         if !alphabet::is_letter(letter) {
-            return Taken::Bad(i);
+            return Extension::Bad(i);
         }
         state = by_letter(products, stack, state, letter);
         i += 1;
     }
-    Taken::Whole(state)
+    Extension::Whole(state)
 }

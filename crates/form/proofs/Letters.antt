@@ -2,7 +2,7 @@
 use Prim.Native.Nat.{ℕ, _<_}
 use mathlib.Core.List.{List}
 use lib.ListN.{length, getD}
-use Rattle.algebra.proofs.List.{every-member}
+use Rattle.lists.proofs.List.{every-member}
 use Rattle.form.specs.Form.{Form, Form-letter, letter-H, letter-S, letter-T, letter-W, letter-X}
 use Rattle.form.proofs.Spelled.{Of-five, spelled-form}
 

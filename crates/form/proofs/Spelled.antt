@@ -4,8 +4,8 @@ use Prim.Native.Nat.{ℕ, zero, suc}
 use mathlib.Core.Bool.{Bool, true, false}
 use mathlib.Core.List.{List, [], _∷_}
 use mathlib.Core.Path.{_≡_, refl}
-use Rattle.algebra.specs.List.{Every, none, more}
-use Rattle.algebra.proofs.List.{every-join, every-replicate}
+use Rattle.lists.specs.List.{Every, none, more}
+use Rattle.lists.proofs.List.{every-join, every-replicate}
 use Rattle.matrix.specs.Letter.{H, S, T, W, X, Letters, is-letter}
 use Rattle.form.specs.Tail.{tail-h, tail-b, tail-c, tail-a, head-text, tail-text}
 use Rattle.form.specs.Form.{Syllable, HT, SHT, Form, syllable-text, syllables-text, front-text, form-text}

@@ -5,7 +5,7 @@ use mathlib.Core.Bool.{Bool, true, false, _&&_}
 use mathlib.Core.List.{List, [], _∷_}
 use Prim.Native.Nat.{ℕ}
 use lib.Dec.{T as Holds, eqb, eqb→eq, ltb, ltb→lt}
-use Rattle.algebra.specs.List.{Every, none, more}
+use Rattle.lists.specs.List.{Every, none, more}
 use Rattle.ring.specs.Element.{nothing, one, omega as ω, omega2, sum, negation, multiple, turned, product}
 use Rattle.matrix.specs.Matrix.{identity, times}
 use Rattle.matrix.specs.Text.{bytes}

@@ -11,8 +11,8 @@ use borrow.Author.Tests.{lt-ltb, le-ltb, le-leb, lt-leb, ltb-true, ltb-false}
 use lib.Dec.{ltb}
 use lib.ListN.{length, take, drop, getD, length-append}
 use lib.Seq.{take-append-seam, drop-append-seam}
-use Rattle.algebra.specs.List.{none, more}
-use Rattle.algebra.proofs.List.{every-join}
+use Rattle.lists.specs.List.{none, more}
+use Rattle.lists.proofs.List.{every-join}
 use Rattle.frame.specs.Digit.{digit, is-digit, digits, Digits}
 
 -- ---- one digit

@@ -4,7 +4,7 @@ use mathlib.Core.Path.{_≡_, refl, sym, _∙_, ap, subst}
 use mathlib.Core.List.{List}
 use Prim.Native.Nat.{ℕ}
 use native.Mathlib.Omega.{arith}
-use Rattle.algebra.proofs.List.{passes-or-fails, fails-once}
+use Rattle.lists.proofs.List.{passes-or-fails, fails-once}
 use Rattle.matrix.specs.declared.Matrix.{Matrix}
 use Rattle.answer.specs.declared.Refusal.{Refusal}
 use Rattle.answer.specs.declared.Refusal.the-variants.{BadFrame}

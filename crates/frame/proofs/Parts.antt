@@ -8,14 +8,13 @@ use borrow.Rule.Slice.PartMut.{putMid}
 use lib.IntN.{ℤ, pos}
 use lib.ListN.{length, take, drop, getD, set, take-append-drop, length-append, length-take, length-drop}
 use lib.Seq.{take-all, take-suc, take-suc-set, take-append-add, take-at, drop-at, drop-drop, length-take-le}
-use Rattle.algebra.specs.List.{none, more}
-use Rattle.algebra.proofs.List.{every-take, every-drop, every-join}
+use Rattle.lists.specs.List.{none, more}
+use Rattle.lists.proofs.List.{every-take, every-drop, every-join}
 use Rattle.ring.proofs.Bounds.{stored}
 use Rattle.matrix.specs.declared.Matrix.{Matrix}
 use Rattle.answer.specs.Limits.{frame-length, check-word-place}
-use Rattle.accept_record.specs.Accept.{coefficients}
-use Rattle.accept_record.specs.Record.{record-of}
-use Rattle.accept_record.proofs.Record.{coefficients-read-back}
+use Rattle.coefficients.specs.Coefficients.{coefficients, record-of}
+use Rattle.coefficients.proofs.ReadBack.{coefficients-read-back}
 use Rattle.frame.specs.Digit.{digits, Digits}
 use Rattle.frame.specs.Frame.{word, words, words-text, total, frame-text, In-words, Spells}
 use Rattle.frame.specs.Parts.{Spelled, Coefficient, Coefficients, Record-text}

@@ -5,11 +5,11 @@ use mathlib.Core.List.{List, _++_}
 use Prim.Native.Nat.{ℕ}
 use native.Mathlib.Omega.{arith}
 use lib.ListN.{length, length-append}
-use Rattle.algebra.proofs.List.{every-join}
+use Rattle.lists.proofs.List.{every-join}
 use Rattle.matrix.specs.declared.Matrix.{Matrix}
 use Rattle.answer.specs.Limits.{frame-length}
-use Rattle.accept_record.specs.Accept.{coefficients}
-use Rattle.accept_record.proofs.Record.{sixteen, coefficients-once}
+use Rattle.coefficients.specs.Coefficients.{coefficients}
+use Rattle.coefficients.proofs.ReadBack.{sixteen, coefficients-once}
 use Rattle.frame.specs.Digit.{digits, Digits}
 use Rattle.frame.specs.Frame.{words, words-text, check-word, frame-text, Spells}
 use Rattle.frame.proofs.Digits.{digits-length, digits-are-digits, digits-once, join-once}

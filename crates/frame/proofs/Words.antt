@@ -13,8 +13,8 @@ use lib.Signed.{ltZ}
 use mir.Syntax.{w64}
 use mir.Val.{SFits}
 use mir.Facts.{toZ-ofZ}
-use Rattle.algebra.specs.List.{none, more}
-use Rattle.algebra.proofs.List.{every-join}
+use Rattle.lists.specs.List.{none, more}
+use Rattle.lists.proofs.List.{every-join}
 use Rattle.ring.specs.Bounds.{Bounded}
 use Rattle.ring.proofs.Bounds.{stored}
 use Rattle.answer.specs.Limits.{coefficient-limit}

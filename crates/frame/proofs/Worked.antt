@@ -4,7 +4,7 @@ use mathlib.Core.List.{_++_}
 use Rattle.ring.specs.Element.{one, negation}
 use Rattle.matrix.specs.Letter.{gate-H}
 use Rattle.matrix.specs.Text.{bytes}
-use Rattle.accept_record.specs.Accept.{coefficients}
+use Rattle.coefficients.specs.Coefficients.{coefficients}
 use Rattle.frame.specs.Digit.{digit, digits}
 use Rattle.frame.specs.Frame.{word, words, words-text, total, check-word, frame-text}
 

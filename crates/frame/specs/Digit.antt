@@ -3,7 +3,7 @@ use Prim.Native.Nat.{ℕ, zero, suc, _+_, _/_, _%_}
 use mathlib.Core.Bool.{Bool, true, cond, _&&_}
 use mathlib.Core.List.{List, [], _∷_, _++_}
 use lib.Dec.{ltb, leb}
-use Rattle.algebra.specs.List.{All-pass, First-failing}
+use Rattle.lists.specs.List.{All-pass, First-failing}
 
 -- the digit for a number below sixteen: 0-9, then a-f
 unfoldable pub digit : ℕ → ℕ

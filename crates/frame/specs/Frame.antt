@@ -3,9 +3,9 @@ use Prim.Native.Nat.{ℕ, _+_, _-_, _^_, _%_, _<_}
 use mathlib.Core.List.{List, [], _∷_, _++_}
 use mathlib.Core.Path.{_≡_}
 use lib.IntN.{ℤ, pos, negsuc}
-use Rattle.algebra.specs.List.{Every}
+use Rattle.lists.specs.List.{Every}
 use Rattle.matrix.specs.declared.Matrix.{Matrix}
-use Rattle.accept_record.specs.Accept.{coefficients}
+use Rattle.coefficients.specs.Coefficients.{coefficients}
 use Rattle.frame.specs.Digit.{digits}
 
 -- "sixteen coefficients in two's complement": the word of a coefficient

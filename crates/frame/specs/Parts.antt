@@ -5,7 +5,7 @@ use mathlib.Core.Path.{_≡_}
 use lib.IntN.{ℤ}
 use lib.ListN.{length}
 use Rattle.matrix.specs.declared.Matrix.{Matrix}
-use Rattle.accept_record.specs.Accept.{coefficients}
+use Rattle.coefficients.specs.Coefficients.{coefficients}
 use Rattle.frame.specs.Digit.{digits, Digits, First-bad-digit}
 use Rattle.frame.specs.Frame.{word, words, words-text, In-word, In-words}
 use Rattle.frame.specs.declared.Found.{Found}

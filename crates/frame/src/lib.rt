@@ -12,7 +12,7 @@ ghost use mathlib.Core.Path.{_≡_};
 ghost use lib.ListN.{length};
 ghost use Rattle.answer.specs.Limits.{frame-length, check-word-place};
 ghost use Rattle.answer.specs.Written.{put};
-ghost use Rattle.accept_record.specs.Accept.{coefficients};
+ghost use Rattle.coefficients.specs.Coefficients.{coefficients};
 ghost use Rattle.frame.specs.Digit.{digit, is-digit, digits, Digits};
 ghost use Rattle.frame.specs.Frame.{word, words, words-text, check-word, frame-text, In-word, In-words};
 ghost use Rattle.answer.specs.Returned.{said};
@@ -177,7 +177,7 @@ fn check_word(m: Matrix) -> u32
     requires { ⌜ In-words (coefficients m) ⌝ }
     ensures { λ r. ⌜ r ≡ check-word m ⌝ }
 {
-    let list = accept_record::coefficients(m);
+    let list = coefficients::coefficients(m);
     let mut sum = m.exponent;
     let mut i = 0;
     while i < 16 {
@@ -210,7 +210,7 @@ fn read_record(text: &[u8]) -> Matrix
 {
     let exponent = number(&text[..2]);
     let list = coefficients(&text[2..]);
-    accept_record::record_of(exponent, &list)
+    coefficients::record_of(exponent, &list)
 }
 
 // A frame of 138 digits: its check word, and then its record.
@@ -257,7 +257,7 @@ fn write_digits(buffer: &mut [u8], m: Matrix)
     write_number(&mut buffer[..2], m.exponent);
     write_words(
         &mut buffer[2..CHECK_WORD_PLACE],
-        accept_record::coefficients(m),
+        coefficients::coefficients(m),
     );
     write_number(&mut buffer[CHECK_WORD_PLACE..FRAME_LENGTH], check_word(m));
 }

@@ -6,7 +6,7 @@ use mathlib.Core.List.{List, [], _∷_}
 use Prim.Native.Nat.{ℕ, _+_, _^_}
 use native.Mathlib.Omega.{arith}
 use lib.IntN.{ℤ, pos, _+ℤ_, negℤ}
-use Rattle.algebra.specs.List.{none, more}
+use Rattle.lists.specs.List.{none, more}
 use Rattle.algebra.proofs.Ring.{times-none}
 use Rattle.algebra.proofs.Solver.{var, con, _⊕_, _⊗_, ⊖_, solve, combine, given, done}
 use Rattle.ring.specs.declared.Element.{Element}

@@ -4,7 +4,7 @@ use Prim.Native.Nat.{ℕ}
 use mathlib.Core.Bool.{Bool, true, cond}
 use mathlib.Core.List.{List, [], _∷_}
 use lib.Dec.{eqb}
-use Rattle.algebra.specs.List.{All-pass, First-failing}
+use Rattle.lists.specs.List.{All-pass, First-failing}
 use Rattle.ring.specs.Element.{nothing, one, omega, omega2, negation}
 use Rattle.matrix.specs.declared.Matrix.{Matrix}
 use Rattle.matrix.specs.Matrix.{matrix, identity, times}

@@ -4,7 +4,7 @@ use mathlib.Core.List.{List}
 use Prim.Native.Nat.{ℕ, _≤_}
 use native.Mathlib.Omega.{arith}
 use lib.ListN.{length}
-use Rattle.algebra.proofs.List.{passes-or-fails}
+use Rattle.lists.proofs.List.{passes-or-fails}
 use Rattle.matrix.specs.declared.Matrix.{Matrix}
 use Rattle.matrix.proofs.Same.{same-trans}
 use Rattle.alphabet.specs.String.{Refused-string, too-long, bad-letter}

@@ -12,7 +12,7 @@ use Rattle.complete.specs.declared.Vector.{Vector}
 use Rattle.complete.specs.Vector.{vector-of}
 use Rattle.complete.specs.Descent.{rest, syllable-taken, past-syllable, word-below}
 use Rattle.complete.proofs.Complete.{guided-of-unitary, word-letters, word-means}
-use Rattle.write_form.specs.Place.{Placed, put-at}
+use Rattle.place.specs.Place.{Placed, put-at}
 use Rattle.matrix_to_form.specs.Letters.{Spelt}
 
 -- what is written stands after what was there

@@ -6,7 +6,7 @@ use Prim.Native.Nat.{ℕ, _≤_}
 use native.Mathlib.Omega.{arith}
 use lib.ListN.{replicate, length, length-append}
 use mir.Val.{boolByte}
-use Rattle.write_form.specs.Place.{Placed}
+use Rattle.place.specs.Place.{Placed}
 use Rattle.matrix.specs.Letter.{H, S, T, X}
 use Rattle.complete.specs.declared.Rest.{Rest}
 use Rattle.complete.specs.Descent.{if-taken, odd-x, odd-y, odd-z, past-S, past-H, syllable-taken, off-y, off-x, downward, axis-taken}

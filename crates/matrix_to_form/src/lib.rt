@@ -4,7 +4,7 @@ ghost use Prim.Native.Nat.{_+_, _≤_};
 ghost use lib.ListN.{length, take};
 ghost use Rattle.answer.specs.Written.{said};
 ghost use Rattle.accept_record.specs.Accept.{Accepted-record};
-ghost use Rattle.write_form.specs.Place.{Placed};
+ghost use Rattle.place.specs.Place.{Placed};
 ghost use Rattle.complete.specs.Descent.{syllable-taken, past-syllable, axis-taken, upright, diagonal-text, word-below};
 ghost use Rattle.matrix_to_form.specs.Descends.{Descends, Above-zero};
 ghost use Rattle.matrix_to_form.specs.Letters.{Spelt, most-letters};
@@ -32,15 +32,15 @@ fn put_syllable(letters: &mut [u8], at: usize, rest: Rest) -> Step
 {
     let v = rest.vector;
     let with_s = descend::odd_pair(v.x, v.z) as usize;
-    let after_s = write_form::put_run(letters, at, b'S', with_s);
+    let after_s = place::write_run(letters, at, b'S', with_s);
     let past_s = descend::past_s(rest);
     let v = past_s.vector;
     let with_h = descend::odd_pair(v.y, v.z) as usize;
-    let after_h = write_form::put_run(letters, after_s, b'H', with_h);
+    let after_h = place::write_run(letters, after_s, b'H', with_h);
     let past_h = descend::past_h(past_s);
     let v = past_h.vector;
     let with_t = descend::odd_pair(v.x, v.y) as usize;
-    let after_t = write_form::put_run(letters, after_h, b'T', with_t);
+    let after_t = place::write_run(letters, after_h, b'T', with_t);
     Step {
         at: after_t,
         rest: descend::past_t(past_h),
@@ -55,13 +55,13 @@ fn put_axis(letters: &mut [u8], at: usize, rest: Rest) -> Step
     ensures { λ r. ⌜ r .rest ≡ upright rest ⌝ }
 {
     let with_s = ring::odd(rest.vector.y.whole) as usize;
-    let after_s = write_form::put_run(letters, at, b'S', with_s);
+    let after_s = place::write_run(letters, at, b'S', with_s);
     let off_y = descend::off_y(rest);
     let with_h = ring::odd(off_y.vector.x.whole) as usize;
-    let after_h = write_form::put_run(letters, after_s, b'H', with_h);
+    let after_h = place::write_run(letters, after_s, b'H', with_h);
     let off_x = descend::off_x(off_y);
     let with_x = (off_x.vector.z.whole < 0) as usize;
-    let after_x = write_form::put_run(letters, after_h, b'X', with_x);
+    let after_x = place::write_run(letters, after_h, b'X', with_x);
     Step {
         at: after_x,
         rest: descend::turned_up(off_x),
@@ -76,9 +76,9 @@ fn put_diagonal(letters: &mut [u8], at: usize, m: Matrix) -> usize
     let first = descend::phase(m.top.left) as usize;
     let second = descend::phase(m.bottom.right) as usize;
     let turn = (second + 8 - first) % 8;
-    let after_t = write_form::put_run(letters, at, b'T', turn % 2);
-    let after_s = write_form::put_run(letters, after_t, b'S', turn / 2);
-    write_form::put_run(letters, after_s, b'W', first)
+    let after_t = place::write_run(letters, at, b'T', turn % 2);
+    let after_s = place::write_run(letters, after_t, b'S', turn / 2);
+    place::write_run(letters, after_s, b'W', first)
 }
 
 // What is left at exponent 0.

@@ -6,7 +6,7 @@ use mathlib.Core.List.{List}
 use mathlib.Core.Logic.{_↔_}
 use mathlib.Core.Path.{_≡_, refl, sym, ap}
 use lib.ListN as L
-use Rattle.algebra.proofs.List.{passes-or-fails, fails-once}
+use Rattle.lists.proofs.List.{passes-or-fails, fails-once}
 use Rattle.form.specs.Form.{Form, Parts}
 use Rattle.form.proofs.Grammar.{form-parts-unique}
 use Rattle.form.proofs.Spelled.{form-is-letters}

@@ -1,6 +1,6 @@
 // The form reader: accepts exactly the texts that are forms, and answers their figures and tail number.
-use alphabet::Found;
 use answer::Refusal;
+use lists::Found;
 ghost use Rattle.read_form.specs.Part.{Begins, Run, Head, Leading-syllable, Any, No-front, Only-tail, Longest};
 ghost use Rattle.read_form.specs.Promise.{Read-form, said};
 
@@ -140,8 +140,8 @@ pub fn read_form(text: &[u8]) -> Read
         });
     }
     match alphabet::first_bad(text) {
-        Found::Bad(place) => Read::Refused(Refusal::BadLetter { place }),
-        Found::Nothing => {
+        Found::First(place) => Read::Refused(Refusal::BadLetter { place }),
+        Found::Absent => {
             let found = longest_form(text);
             if found.length == text.len() {
                 Read::Form(found)

@@ -3,7 +3,8 @@
 use mathlib.Core.Path.{_≡_, ap, sym, _∙_}
 use mathlib.Core.Bool.{Bool, false, Bool-discrete}
 use lib.IntN.{ℤ, _+ℤ_, _-ℤ_, negℤ, +ℤ-comm}
-use Rattle.algebra.proofs.Parity.{odd, differ, differ-same, half, even-half, odd-plus, odd-negate}
+use Rattle.algebra.specs.Parity.{odd, half}
+use Rattle.algebra.proofs.Parity.{differ, differ-same, even-half, odd-plus, odd-negate}
 use Rattle.ring.specs.declared.Element.{Element}
 use Rattle.ring.specs.Element.{element, root2, sum, product}
 use Rattle.ring.specs.Divided.{Root2-divides}

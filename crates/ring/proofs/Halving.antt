@@ -10,7 +10,8 @@ use lib.Signed.{mag, quotZ, remZ}
 use mir.Syntax.{w64}
 use mir.Val.{SFits, ofZ}
 use mir.Facts.{toZ-ofZ}
-use Rattle.algebra.proofs.Parity.{odd, odd-suc}
+use Rattle.algebra.specs.Parity.{odd}
+use Rattle.algebra.proofs.Parity.{odd-suc}
 use Rattle.ring.specs.declared.Element.{Element}
 use Rattle.ring.specs.Element.{element, sum}
 use Rattle.ring.specs.Divided.{Double}

@@ -3,7 +3,7 @@ ghost use Prim.Native.Nat.{_^_};
 ghost use mathlib.Core.Bool.{true};
 ghost use mathlib.Core.Logic.{_↔_};
 ghost use mathlib.Core.Path.{_≡_};
-ghost use Rattle.algebra.proofs.Parity.{odd};
+ghost use Rattle.algebra.specs.Parity.{odd};
 ghost use Rattle.ring.specs.Element.{sum, negation, multiple, turned, product, conjugate, root2};
 ghost use Rattle.ring.specs.Bounds.{Small, Multiplied, Factors};
 ghost use Rattle.ring.specs.Divided.{Root2-divides, Double};

@@ -6,7 +6,7 @@ use mathlib.Core.Bool.{false}
 use mathlib.Core.List.{List}
 use Prim.Native.Nat.{ℕ, _+_, _<_}
 use native.Mathlib.Nat.{le-antisymm}
-use Rattle.algebra.proofs.Parity.{odd}
+use Rattle.algebra.specs.Parity.{odd}
 use Rattle.ring.specs.Element.{product, root2-power}
 use Rattle.ring.proofs.Root2.{root2-power-cancel}
 use Rattle.matrix.specs.declared.Matrix.{Matrix}

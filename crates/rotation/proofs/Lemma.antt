@@ -7,7 +7,8 @@ use Prim.Native.Nat.{ℕ, zero, _≤_, _<_}
 use native.Mathlib.Decide.{decLt}
 use native.Mathlib.Omega.{arith}
 use lib.IntN.{ℤ}
-use Rattle.algebra.proofs.Parity.{odd, odd-double, half, even-half}
+use Rattle.algebra.specs.Parity.{odd, half}
+use Rattle.algebra.proofs.Parity.{odd-double, even-half}
 use Rattle.matrix.specs.Letter.{matrix-of}
 use Rattle.form.specs.Form.{Form}
 use Rattle.form.specs.Count.{t-count}

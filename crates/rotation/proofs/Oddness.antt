@@ -8,7 +8,8 @@ use Prim.Native.Nat.{ℕ, suc, _+_, _-_, _<_}
 use native.Mathlib.Omega.{arith}
 use lib.IntN.{_+ℤ_}
 use Rattle.algebra.proofs.Whole.{whole}
-use Rattle.algebra.proofs.Parity.{odd, differ, odd-plus, odd-negate, odd-double}
+use Rattle.algebra.specs.Parity.{odd}
+use Rattle.algebra.proofs.Parity.{differ, odd-plus, odd-negate, odd-double}
 use Rattle.algebra.proofs.Solver.{var, _⊕_, ⊖_, solve}
 use Rattle.ring.specs.declared.Element.{Element}
 use Rattle.ring.specs.Element.{root2, sum, product, negation, root2-power}

@@ -5,9 +5,9 @@ use mathlib.Core.Bool.{true}
 use mathlib.Core.List.{List, [], _∷_}
 use Prim.Native.Nat.{ℕ}
 use lib.IntN.{ℤ, pos, _+ℤ_, negℤ}
-use Rattle.algebra.specs.List.{none, more}
+use Rattle.lists.specs.List.{none, more}
 use Rattle.algebra.proofs.Whole.{whole}
-use Rattle.algebra.proofs.Parity.{odd}
+use Rattle.algebra.specs.Parity.{odd}
 use Rattle.algebra.proofs.Solver.{var, con, _⊕_, ⊖_, solve}
 use Rattle.algebra.proofs.Cancellation.{double-cancel}
 use Rattle.ring.specs.declared.Element.{Element}

@@ -8,7 +8,7 @@ use Prim.Native.Nat.{ℕ, suc, _+_}
 use native.Mathlib.Omega.{arith}
 use lib.IntN.{ℤ}
 use lib.Dec.{eqb}
-use Rattle.algebra.specs.List.{none, more}
+use Rattle.lists.specs.List.{none, more}
 use Rattle.ring.specs.declared.Element.{Element}
 use Rattle.ring.specs.Element.{nothing, one, omega as ω, omega2, root2, sum, product, multiple, turned, negation, conjugate}
 use Rattle.ring.proofs.Formal.{Formal, _+ᶠ_, -ᶠ_, _*ᶠ_, root2ᶠ, xᶠ, yᶠ, zᶠ, coefficients}

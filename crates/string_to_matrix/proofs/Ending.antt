@@ -8,7 +8,7 @@ use mathlib.Core.List.{List, [], _∷_, _++_}
 use mathlib.Core.Path.{_≡_, refl, sym, ap, _∙_}
 use lib.ListN.{length, take, drop, getD, replicate, take-append-drop}
 use lib.Seq.{drop-length, drop-cons}
-use Rattle.algebra.proofs.List.{every-drop}
+use Rattle.lists.proofs.List.{every-drop}
 use Rattle.matrix.specs.Matrix.{times, identity}
 use Rattle.matrix.specs.Letter.{S, W, X, gate, gate-H, gate-S, gate-T, gate-W, gate-X, matrix-of}
 use Rattle.matrix.proofs.Times.{matrix-of-append}

@@ -9,7 +9,7 @@ use mir.Syntax.{w64}
 use mir.Val.{SFits}
 use mir.ValLaws.{sfits-le}
 use mir.Facts.{toZ-ofZ}
-use Rattle.algebra.proofs.Parity.{half}
+use Rattle.algebra.specs.Parity.{half}
 use Rattle.ring.specs.Bounds.{Bounded}
 use Rattle.ring.proofs.Bounds.{stored, known, _⊟_, fits, exact-stored, sum-exact, bounded-fits, bounded-sum, bounded-negation}
 use Rattle.complete.specs.declared.Real.{Real}

@@ -10,10 +10,10 @@ use Rattle.matrix.specs.Letter.{T}
 use Rattle.form.specs.Tail.{head-text}
 use Rattle.form.specs.Count.{h-count}
 use Rattle.form.proofs.Count.{length-head}
-use Rattle.extend_form.specs.declared.State.{State}
-use Rattle.extend_form.specs.State.{Codes, front, HT-above, SHT-above, codes-text, used, state-text, Spells}
-use Rattle.extend_form.proofs.Spelling.{syllable-count, h-count-spelled}
-use Rattle.extend_form.proofs.Stack.{last-code}
+use Rattle.stack.specs.declared.State.{State}
+use Rattle.stack.specs.State.{Codes, front, HT-above, SHT-above, codes-text, used, state-text, Well-formed}
+use Rattle.stack.proofs.Spelling.{syllable-count, h-count-spelled}
+use Rattle.stack.proofs.Used.{last-code}
 
 -- what goes down by one goes down to any smaller number
 down-or-same : (P : ℕ → Type 0) (n m : ℕ) → m ≤ suc n → P (suc n) → (m ≤ n → P m) → Dec (m ≤ n) → P m
@@ -107,7 +107,7 @@ counted-all stack zero some good bottom = absurd (some refl)
 counted-all stack (suc n) some good bottom = all-syllables stack n good bottom
 
 -- the H-count of what a state spells
-module _ (stack : List ℕ) (state : State) (s : Spells stack state) where
+module _ (stack : List ℕ) (state : State) (s : Well-formed stack state) where
   counted : syllable-count (used stack (state .count)) ≡ h-count (state-text stack state)
   unfolding state-text
   counted = sym (h-count-spelled (state .tail) (s .codes))

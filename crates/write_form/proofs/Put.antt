@@ -11,11 +11,12 @@ use Rattle.answer.specs.declared.Refusal.the-variants.{NoRoom}
 use Rattle.answer.specs.declared.Figures.{Figures}
 use Rattle.answer.specs.Refusal.{accepted, refusal}
 use Rattle.answer.specs.Written.{Put-form, no-room, room, figures-of, put}
-use Rattle.extend_form.specs.declared.State.{State}
-use Rattle.extend_form.specs.State.{codes-text, used, state-text}
-use Rattle.extend_form.proofs.Stack.{t-count-state}
-use Rattle.write_form.specs.Place.{Placed}
-use Rattle.write_form.proofs.Place.{placed-more, placed-at-start}
+use Rattle.stack.specs.declared.State.{State}
+use Rattle.stack.specs.State.{codes-text, used, state-text}
+use Rattle.stack.proofs.Used.{t-count-state}
+use Rattle.place.specs.Place.{Placed}
+use Rattle.place.proofs.Place.{placed-more}
+use Rattle.answer.proofs.Put.{placed-at-start}
 
 -- the length of the text is that of its codes and its tail
 pub state-length :

@@ -2,7 +2,7 @@
 use answer::Figures;
 use answer::Refusal;
 use answer::Written;
-use extend_form::State;
+use stack::State;
 ghost use Prim.Native.Nat.{_+_, _*_, _≤_, _<_, _^_};
 ghost use mathlib.Core.List.{[], _∷_, _++_};
 ghost use mathlib.Core.Path.{_≡_};
@@ -11,8 +11,8 @@ ghost use Rattle.matrix.specs.Letter.{T};
 ghost use Rattle.form.specs.Tail.{tails, head-text, tail-text};
 ghost use Rattle.form.specs.Count.{h-count};
 ghost use Rattle.answer.specs.Written.{said, Put-form};
-ghost use Rattle.extend_form.specs.State.{Codes, codes-text, used, state-text, Spells};
-ghost use Rattle.write_form.specs.Place.{Placed};
+ghost use Rattle.stack.specs.State.{Codes, codes-text, used, state-text, Well-formed};
+ghost use Rattle.place.specs.Place.{Placed};
 
 // A code's text is as long as the code's number, and T.
 fn codes_length(stack: &[u8], count: usize) -> usize
@@ -39,7 +39,7 @@ fn tail_length(tail: u8) -> usize
 
 // The syllables: every code but a T at the bottom.
 fn syllables(stack: &[u8], state: State) -> usize
-    requires { ⌜ Spells (now stack) state ⌝ }
+    requires { ⌜ Well-formed (now stack) state ⌝ }
     ensures { λ r. ⌜ r ≡ h-count (state-text (now (stack .entry)) state) ⌝ }
 {
     let count = state.count;
@@ -52,21 +52,8 @@ fn syllables(stack: &[u8], state: State) -> usize
     count
 }
 
-// A letter, a number of times.
-pub fn put_run(buffer: &mut [u8], place: usize, letter: u8, times: usize) -> usize
-    requires { ⌜ place + times ≤ length (now buffer) ⌝ }
-    ensures { λ r. ⌜ Placed place (replicate times letter) (now (buffer .entry)) r (now (buffer .exit)) ⌝ }
-{
-    let mut i = 0;
-    while i < times {
-        buffer[place + i] = letter;
-        i += 1;
-    }
-    place + times
-}
-
 // Nothing, H or SH.
-fn put_head(buffer: &mut [u8], place: usize, head: u8) -> usize
+fn write_head(buffer: &mut [u8], place: usize, head: u8) -> usize
     requires { ⌜ place + length (head-text head) ≤ length (now buffer) ⌝ }
     ensures { λ r. ⌜ Placed place (head-text head) (now (buffer .entry)) r (now (buffer .exit)) ⌝ }
 {
@@ -83,16 +70,16 @@ fn put_head(buffer: &mut [u8], place: usize, head: u8) -> usize
 }
 
 // A code: its head and T.
-fn put_code(buffer: &mut [u8], place: usize, code: u8) -> usize
+fn write_code(buffer: &mut [u8], place: usize, code: u8) -> usize
     requires { ⌜ place + length (head-text code ++ T ∷ []) ≤ length (now buffer) ⌝ }
     ensures { λ r. ⌜ Placed place (head-text code ++ T ∷ []) (now (buffer .entry)) r (now (buffer .exit)) ⌝ }
 {
-    let after = put_head(buffer, place, code);
+    let after = write_head(buffer, place, code);
     buffer[after] = b'T';
     after + 1
 }
 
-fn put_codes(buffer: &mut [u8], stack: &[u8], count: usize) -> usize
+fn write_codes(buffer: &mut [u8], stack: &[u8], count: usize) -> usize
     requires { ⌜ count ≤ length (now stack) ⌝ }
     requires { ⌜ length (codes-text (used (now stack) count)) ≤ length (now buffer) ⌝ }
     ensures { λ r. ⌜ Placed 0 (codes-text (used (now (stack .entry)) count)) (now (buffer .entry)) r (now (buffer .exit)) ⌝ }
@@ -100,25 +87,25 @@ fn put_codes(buffer: &mut [u8], stack: &[u8], count: usize) -> usize
     let mut place = 0;
     let mut i = 0;
     while i < count {
-        place = put_code(buffer, place, stack[i]);
+        place = write_code(buffer, place, stack[i]);
         i += 1;
     }
     place
 }
 
-fn put_tail(buffer: &mut [u8], place: usize, tail: u8) -> usize
+fn write_tail(buffer: &mut [u8], place: usize, tail: u8) -> usize
     requires { ⌜ place + length (tail-text tail) ≤ length (now buffer) ⌝ }
     ensures { λ r. ⌜ Placed place (tail-text tail) (now (buffer .entry)) r (now (buffer .exit)) ⌝ }
 {
-    let after_head = put_head(buffer, place, tail / 64);
-    let after_x = put_run(buffer, after_head, b'X', (tail / 32 % 2) as usize);
-    let after_s = put_run(buffer, after_x, b'S', (tail / 8 % 4) as usize);
-    put_run(buffer, after_s, b'W', (tail % 8) as usize)
+    let after_head = write_head(buffer, place, tail / 64);
+    let after_x = place::write_run(buffer, after_head, b'X', (tail / 32 % 2) as usize);
+    let after_s = place::write_run(buffer, after_x, b'S', (tail / 8 % 4) as usize);
+    place::write_run(buffer, after_s, b'W', (tail % 8) as usize)
 }
 
 // The form that a stack and a state spell, written into a lent buffer where it has room.
-pub fn put_form(stack: &[u8], state: State, buffer: &mut [u8]) -> Written
-    requires { ⌜ Spells (now stack) state ⌝ }
+pub fn write_form(stack: &[u8], state: State, buffer: &mut [u8]) -> Written
+    requires { ⌜ Well-formed (now stack) state ⌝ }
     requires { ⌜ 3 * state .count + 13 < 2 ^ 64 ⌝ }
     ensures { λ r. ⌜ Put-form (state-text (now (stack .entry)) state) (now (buffer .entry)) (said r) (now (buffer .exit)) ⌝ }
 {
@@ -126,8 +113,8 @@ pub fn put_form(stack: &[u8], state: State, buffer: &mut [u8]) -> Written
     if buffer.len() < length {
         return Written::Refused(Refusal::NoRoom { needed: length });
     }
-    let place = put_codes(buffer, stack, state.count);
-    put_tail(buffer, place, state.tail);
+    let place = write_codes(buffer, stack, state.count);
+    write_tail(buffer, place, state.tail);
     let figures = Figures {
         length,
         tcount: state.count,

@@ -10,8 +10,8 @@ use lib.IntN.{pos}
 use lib.ListN.{length, getD, take}
 use lib.Seq.{take-all}
 use mir.Facts.{toZ-ofZ}
-use Rattle.algebra.specs.List.{none}
-use Rattle.algebra.proofs.List.{every-grows, fails-after}
+use Rattle.lists.specs.List.{none}
+use Rattle.lists.proofs.List.{every-grows, fails-after}
 use Rattle.accept_record.specs.Accept.{in-limit, In-limits}
 use Rattle.accept_record.specs.Wide.{Search, wide, all-inside}
 use Rattle.accept_record.proofs.first_wide.Statement.{statement}

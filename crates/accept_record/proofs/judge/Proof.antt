@@ -4,16 +4,13 @@ use mathlib.Core.Bool.{true≢false}
 use native.Mathlib.Omega.{arith}
 use borrow.Author.Needs.{needs}
 use lib.ListN.{length}
-use Rattle.matrix.specs.declared.Matrix.{Matrix}
-use Rattle.accept_record.specs.Accept.{coefficients, Inside, high-exponent, wide-coefficient, not-unitary, Judged}
+use Rattle.coefficients.specs.Coefficients.{coefficients}
+use Rattle.accept_record.specs.Accept.{Inside, high-exponent, wide-coefficient, not-unitary, Judged}
 use Rattle.accept_record.specs.Wide.{Search}
+use Rattle.coefficients.proofs.ReadBack.{sixteen}
 use Rattle.accept_record.proofs.Limits.{wide-found, none-wide}
 use Rattle.accept_record.proofs.judge.Statement.{statement}
 use Rattle.accept_record.proofs.judge.Tie as tie
-
-sixteen : (m : Matrix) → length (coefficients m) ≡ 16
-unfolding coefficients
-sixteen m = refl
 
 -- the search among the record's coefficients
 searched : (c : tie.After-first-wide) → Search (coefficients (c .before .before .before .before .before .args .m)) (c .first-wide .result)

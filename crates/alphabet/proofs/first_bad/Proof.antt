@@ -7,8 +7,8 @@ use borrow.Author.Tests.{not-true, not-false}
 use mathlib.Core.Path.{sym, _∙_}
 use lib.ListN.{length, take}
 use lib.Seq.{take-all}
-use Rattle.algebra.specs.List.{none}
-use Rattle.algebra.proofs.List.{every-grows, fails-after}
+use Rattle.lists.specs.List.{none}
+use Rattle.lists.proofs.List.{every-grows, fails-after}
 use Rattle.matrix.specs.Letter.{Letters}
 use Rattle.alphabet.proofs.first_bad.Statement.{statement}
 use Rattle.alphabet.proofs.first_bad.Tie as tie

@@ -5,7 +5,7 @@ use borrow.Author.Needs.{needs}
 use borrow.Author.Tests.{not-true, not-false}
 use mathlib.Core.Bool.{true≢false}
 use mathlib.Core.Path.{_≡_, sym, ap, subst, _∙_}
-use Rattle.extend_form.specs.State.{used}
+use Rattle.stack.specs.State.{used}
 use Rattle.compare.proofs.Phase.{with-Ws-known}
 use Rattle.compare.proofs.States.{Agree, agree-count, equal-states, apart-states, unlike-states}
 use Rattle.compare.proofs.relation.Statement.{statement}

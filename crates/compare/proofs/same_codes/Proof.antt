@@ -5,8 +5,8 @@ use native.Mathlib.Omega.{arith}
 use borrow.Author.Needs.{needs}
 use mathlib.Core.Bool.{true≢false}
 use mathlib.Core.Path.{_≡_, refl, sym, subst}
-use Rattle.extend_form.specs.State.{used}
-use Rattle.extend_form.proofs.Stack.{used-more, used-at}
+use Rattle.stack.specs.State.{used}
+use Rattle.stack.proofs.Used.{used-more, used-at}
 use Rattle.compare.proofs.same_codes.Statement.{statement}
 use Rattle.compare.proofs.same_codes.Tie as tie
 

@@ -7,8 +7,8 @@ use mathlib.Core.Path.{_≡_}
 use denote.Ref.{now}
 use borrow.Author.Needs.{needs}
 use Rattle.form.specs.Tail.{tail-h}
-use Rattle.extend_form.specs.State.{Codes, front, used}
-use Rattle.extend_form.proofs.Stack.{syllable-above}
+use Rattle.stack.specs.State.{Codes, front, used}
+use Rattle.stack.proofs.Used.{syllable-above}
 use Rattle.extend_form.proofs.by_t.Statement.{statement}
 use Rattle.extend_form.proofs.by_t.Tie as tie
 

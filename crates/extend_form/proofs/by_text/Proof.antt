@@ -9,10 +9,10 @@ use borrow.Author.Needs.{needs}
 use borrow.Author.Tests.{not-true, not-false}
 use lib.ListN.{length, take}
 use lib.Seq.{take-all}
-use Rattle.algebra.specs.List.{none}
-use Rattle.algebra.proofs.List.{every-grows, fails-after}
+use Rattle.lists.specs.List.{none}
+use Rattle.lists.proofs.List.{every-grows, fails-after}
 use Rattle.matrix.specs.Letter.{Letters}
-use Rattle.extend_form.specs.State.{Extended}
+use Rattle.extend_form.specs.Extend.{Extended}
 use Rattle.extend_form.proofs.Step.{extends-none}
 use Rattle.extend_form.proofs.Stack.{room-left, taken-more}
 use Rattle.extend_form.proofs.by_text.Statement.{statement}
@@ -28,7 +28,7 @@ abbrev μ-loop : tie.MeasureT-loop
 loop-holds : tie.Need-loop-holds Inv-loop μ-loop
 loop-holds c =
     let start = c .before .before in
-    (search needs, none, refl, record { spells = start .pre .1 .0; extends = extends-none _ })
+    (search needs, none, refl, record { well-formed = start .pre .1 .0; extends = extends-none _ })
 
 shared-slice-read-letter : tie.Need-shared-slice-read-letter Inv-loop μ-loop
 shared-slice-read-letter c = search needs
@@ -51,7 +51,7 @@ by-letter-requires c κs =
     let more = c .before .before .before .before .loop-test .taken in (
       start .pre .0,
       (
-        inv .3 .spells,
+        inv .3 .well-formed,
         (
           room-left _ _ more (inv .3) (start .pre .1 .1) (inv .2),
           sym (c .before .before .is-letter .ensures) ∙ not-false _ (c .before .if1 .left),

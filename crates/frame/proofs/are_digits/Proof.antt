@@ -8,8 +8,8 @@ use mathlib.Core.Logic.{⊎-elim}
 use mathlib.Core.Path.{_≡_, refl, sym, _∙_, ap}
 use lib.ListN.{length, take}
 use lib.Seq.{take-all}
-use Rattle.algebra.specs.List.{none}
-use Rattle.algebra.proofs.List.{every-grows, every-member}
+use Rattle.lists.specs.List.{none}
+use Rattle.lists.proofs.List.{every-grows, every-member}
 use Rattle.frame.specs.Digit.{is-digit, Digits}
 use Rattle.frame.proofs.are_digits.Statement.{statement}
 use Rattle.frame.proofs.are_digits.Tie as tie

@@ -9,11 +9,11 @@ use borrow.Author.Needs.{needs}
 use lib.IntN.{ℤ, pos}
 use lib.ListN.{length, take, getD}
 use lib.Seq.{take-all}
-use Rattle.algebra.proofs.List.{every-member}
+use Rattle.lists.proofs.List.{every-member}
 use Rattle.frame.specs.Frame.{word, words, total, check-word, In-word, In-words}
 use Rattle.frame.proofs.Words.{in-word-stored}
 use Rattle.frame.proofs.Parts.{sum-more}
-use Rattle.accept_record.proofs.Record.{sixteen}
+use Rattle.coefficients.proofs.ReadBack.{sixteen}
 use Rattle.frame.proofs.check_word.Statement.{statement}
 use Rattle.frame.proofs.check_word.Tie as tie
 

@@ -8,7 +8,7 @@ use borrow.Author.Needs.{needs}
 use lib.IntN.{ℤ}
 use lib.ListN.{length, take, length-set}
 use lib.Seq.{take-all}
-use Rattle.algebra.specs.List.{none}
+use Rattle.lists.specs.List.{none}
 use Rattle.frame.specs.Frame.{words, words-text, In-words}
 use Rattle.frame.proofs.Parts.{part-digits, part-length, read-step}
 use Rattle.frame.proofs.coefficients.Statement.{statement}

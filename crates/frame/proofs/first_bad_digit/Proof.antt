@@ -7,8 +7,8 @@ use borrow.Author.Tests.{not-true, not-false}
 use mathlib.Core.Path.{sym, _∙_}
 use lib.ListN.{length, take}
 use lib.Seq.{take-all}
-use Rattle.algebra.specs.List.{none}
-use Rattle.algebra.proofs.List.{every-grows, fails-after}
+use Rattle.lists.specs.List.{none}
+use Rattle.lists.proofs.List.{every-grows, fails-after}
 use Rattle.frame.specs.Digit.{Digits}
 use Rattle.frame.proofs.first_bad_digit.Statement.{statement}
 use Rattle.frame.proofs.first_bad_digit.Tie as tie

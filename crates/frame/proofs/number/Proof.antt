@@ -10,7 +10,7 @@ use borrow.Author.Needs.{needs}
 use lib.Dec.{lit<}
 use lib.ListN.{length, take, getD}
 use lib.Seq.{take-all, take-suc}
-use Rattle.algebra.proofs.List.{every-member}
+use Rattle.lists.proofs.List.{every-member}
 use Rattle.frame.specs.Digit.{digit, digits}
 use Rattle.frame.proofs.Digits.{digits-more}
 use Rattle.frame.proofs.number.Statement.{statement}

@@ -4,7 +4,7 @@ use native.Mathlib.Omega.{arith}
 use borrow.Author.Needs.{needs}
 use lib.ListN.{length}
 use lib.Seq.{length-take-le}
-use Rattle.algebra.proofs.List.{every-take}
+use Rattle.lists.proofs.List.{every-take}
 use Rattle.answer.specs.Limits.{check-word-place}
 use Rattle.accept_record.specs.Accept.{Judged}
 use Rattle.frame.specs.Frame.{check-word, Spells}

@@ -4,7 +4,7 @@ use native.Mathlib.Omega.{arith}
 use borrow.Author.Needs.{needs}
 use lib.ListN.{length}
 use lib.Seq.{length-take-le}
-use Rattle.algebra.proofs.List.{every-take}
+use Rattle.lists.proofs.List.{every-take}
 use Rattle.frame.specs.Parts.{Record-text}
 use Rattle.frame.proofs.Parts.{part-digits, part-length, record-parts}
 use Rattle.frame.proofs.read_record.Statement.{statement}

@@ -12,7 +12,7 @@ use lib.Seq.{length-take-le}
 use Rattle.matrix.specs.declared.Matrix.{Matrix}
 use Rattle.answer.specs.Limits.{frame-length}
 use Rattle.answer.specs.Written.{put}
-use Rattle.accept_record.specs.Accept.{coefficients}
+use Rattle.coefficients.specs.Coefficients.{coefficients}
 use Rattle.frame.specs.Digit.{digits}
 use Rattle.frame.specs.Frame.{words, words-text, check-word, frame-text, In-words}
 use Rattle.frame.proofs.Digits.{digits-length}

@@ -9,7 +9,7 @@ use borrow.Rule.Slice.PartMut.{same-len-mid}
 use lib.IntN.{ℤ, pos}
 use lib.ListN.{length, take, getD}
 use lib.Seq.{take-all}
-use Rattle.algebra.proofs.List.{every-member}
+use Rattle.lists.proofs.List.{every-member}
 use Rattle.frame.specs.Digit.{digits}
 use Rattle.frame.specs.Frame.{word, words, words-text, In-word}
 use Rattle.frame.proofs.Words.{in-word-stored}

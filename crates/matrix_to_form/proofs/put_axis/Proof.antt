@@ -8,14 +8,14 @@ use denote.Ref.{now}
 use lib.ListN.{length}
 use lib.IntN.{ℤ, pos}
 use lib.Signed.{ltZ}
-use Rattle.algebra.proofs.Parity.{odd}
+use Rattle.algebra.specs.Parity.{odd}
 use Rattle.ring.proofs.Bounds.{stored, kept}
 use Rattle.matrix.specs.Letter.{H, S, X}
 use Rattle.complete.specs.declared.Rest.{Rest}
 use Rattle.complete.specs.Descent.{if-taken, odd-x, odd-y, off-y, off-x, downward, turned-up, axis-taken, upright}
 use Rattle.turn.specs.Room.{Roomy-rest}
-use Rattle.write_form.specs.Place.{Placed}
-use Rattle.write_form.proofs.Place.{placed-more, placed-length, placed-room}
+use Rattle.place.specs.Place.{Placed}
+use Rattle.place.proofs.Place.{placed-more, placed-length, placed-room}
 use Rattle.matrix_to_form.proofs.Descends.{roomy, roomy-off-y, roomy-off-x}
 use Rattle.matrix_to_form.proofs.Taken.{once, placed-taken, length-taken}
 use Rattle.matrix_to_form.proofs.put_axis.Statement.{statement}
@@ -44,48 +44,48 @@ unfolding left-S
 roomy-left-H c = subst Roomy-rest (sym (is-left-H c)) (roomy-off-x (after-S c .before .before .before .before .before .before .before .before .pre .1))
 
 -- ---- the letters, place by place
-abbrev start : tie.After-put-run → tie.Start
+abbrev start : tie.After-write-run → tie.Start
 start c = c .before .before .before .before .before
 
-first : (c : tie.After-put-run) →
-    Placed (start c .args .at) (if-taken (odd-y (start c .args .rest)) S) (now (start c .args .letters)) (c .put-run .result) (c .put-run .last .0)
-first c = placed-taken S (c .before .before .odd .ensures ∙ ap odd (kept (roomy (start c .pre .1) .vector .y .whole))) (c .put-run .ensures)
+first : (c : tie.After-write-run) →
+    Placed (start c .args .at) (if-taken (odd-y (start c .args .rest)) S) (now (start c .args .letters)) (c .write-run .result) (c .write-run .last .0)
+first c = placed-taken S (c .before .before .odd .ensures ∙ ap odd (kept (roomy (start c .pre .1) .vector .y .whole))) (c .write-run .ensures)
 
-abbrev to-S : tie.After-put-run2 → tie.After-off-y
+abbrev to-S : tie.After-write-run2 → tie.After-off-y
 to-S c = c .before .before .before .before
 
-abbrev after-first : tie.After-put-run2 → tie.After-put-run
+abbrev after-first : tie.After-write-run2 → tie.After-write-run
 after-first c = to-S c .before .before .before
 
-second : (c : tie.After-put-run2) →
-    Placed (after-first c .put-run .result) (if-taken (odd-x (left-S (to-S c))) H) (after-first c .put-run .last .0) (c .put-run2 .result) (c .put-run2 .last .0)
+second : (c : tie.After-write-run2) →
+    Placed (after-first c .write-run .result) (if-taken (odd-x (left-S (to-S c))) H) (after-first c .write-run .last .0) (c .write-run2 .result) (c .write-run2 .last .0)
 second c =
     placed-taken H
     (c .before .before .odd2 .ensures ∙ ap odd (kept (roomy-left-S (to-S c) .vector .x .whole)) ∙ ap (λ (r : Rest). odd-x r) (is-left-S (to-S c)))
-    (c .put-run2 .ensures)
+    (c .write-run2 .ensures)
 
-abbrev to-H : tie.After-put-run3 → tie.After-off-x
+abbrev to-H : tie.After-write-run3 → tie.After-off-x
 to-H c = c .before .before .before .before
 
-abbrev after-second : tie.After-put-run3 → tie.After-put-run2
+abbrev after-second : tie.After-write-run3 → tie.After-write-run2
 after-second c = to-H c .before .before .before
 
 -- the test as the machine makes it
 down-test : (c : tie.After-off-x) → ltZ (stored (c .off-x .result .vector .z .whole)) (pos 0) ≡ downward (off-x (left-S (after-S c)))
 down-test c = ap (λ (z : ℤ). ltZ z (pos 0)) (kept (roomy-left-H c .vector .z .whole)) ∙ ap (λ (r : Rest). downward r) (is-left-H c)
 
-third : (c : tie.After-put-run3) →
-    Placed (after-second c .put-run2 .result) (if-taken (downward (off-x (left-S (to-S (after-second c))))) X) (after-second c .put-run2 .last .0) (c .put-run3 .result) (c .put-run3 .last .0)
-third c = placed-taken X (down-test (to-H c)) (c .put-run3 .ensures)
+third : (c : tie.After-write-run3) →
+    Placed (after-second c .write-run2 .result) (if-taken (downward (off-x (left-S (to-S (after-second c))))) X) (after-second c .write-run2 .last .0) (c .write-run3 .result) (c .write-run3 .last .0)
+third c = placed-taken X (down-test (to-H c)) (c .write-run3 .ensures)
 
-all-three : (c : tie.After-put-run3) →
+all-three : (c : tie.After-write-run3) →
     let begin = start (after-first (after-second c)) in
-    Placed (begin .args .at) (axis-taken (begin .args .rest)) (now (begin .args .letters)) (c .put-run3 .result) (c .put-run3 .last .0)
+    Placed (begin .args .at) (axis-taken (begin .args .rest)) (now (begin .args .letters)) (c .write-run3 .result) (c .write-run3 .last .0)
 unfolding axis-taken left-S
 all-three c = placed-more (first (after-first (after-second c))) (placed-more (second (after-second c)) (third c))
 
 -- the room that the first letter leaves
-room-first : (c : tie.After-put-run) → c .put-run .result + 2 ≤ length (c .put-run .last .0)
+room-first : (c : tie.After-write-run) → c .write-run .result + 2 ≤ length (c .write-run .last .0)
 room-first c = placed-room 1 2 (length-taken _ S) (start c .pre .0) (first c)
 
 -- ---- the needs
@@ -95,8 +95,8 @@ odd-requires c κs = search needs
 cast-with-s : tie.Need-cast-with-s
 cast-with-s c = search needs
 
-put-run-requires : tie.Need-put-run-requires
-put-run-requires c κs = omega (arith, once (c .before .odd .result), c .before .before .before .before .pre .0)
+write-run-requires : tie.Need-write-run-requires
+write-run-requires c κs = omega (arith, once (c .before .odd .result), c .before .before .before .before .pre .0)
 
 off-y-requires : tie.Need-off-y-requires
 off-y-requires c κs = roomy (c .before .before .before .before .before .before .before .pre .1)
@@ -107,8 +107,8 @@ odd-requires-2 c κs = search needs
 cast-with-h : tie.Need-cast-with-h
 cast-with-h c = search needs
 
-put-run-requires-2 : tie.Need-put-run-requires-2
-put-run-requires-2 c κs = omega (arith, once (c .before .odd2 .result), room-first (c .before .before .before .before .before .before))
+write-run-requires-2 : tie.Need-write-run-requires-2
+write-run-requires-2 c κs = omega (arith, once (c .before .odd2 .result), room-first (c .before .before .before .before .before .before))
 
 off-x-requires : tie.Need-off-x-requires
 off-x-requires c κs = roomy-left-S (c .before .before .before .before .before .before)
@@ -116,8 +116,8 @@ off-x-requires c κs = roomy-left-S (c .before .before .before .before .before .
 cast-with-x : tie.Need-cast-with-x
 cast-with-x c = search needs
 
-put-run-requires-3 : tie.Need-put-run-requires-3
-put-run-requires-3 c κs =
+write-run-requires-3 : tie.Need-write-run-requires-3
+write-run-requires-3 c κs =
     let middle = c .before .before .before .before .before .before in
     omega (arith, once (ltZ (stored (c .before .before .before .off-x .result .vector .z .whole)) (pos 0)), placed-room 1 1 (length-taken _ H) (room-first (after-first middle)) (second middle))
 
@@ -137,14 +137,14 @@ put-axis-spec =
     (tie.spec
     odd-requires
     cast-with-s
-    put-run-requires
+    write-run-requires
     off-y-requires
     odd-requires-2
     cast-with-h
-    put-run-requires-2
+    write-run-requires-2
     off-x-requires
     cast-with-x
-    put-run-requires-3
+    write-run-requires-3
     turned-up-requires
     same-length
     returns)

@@ -8,8 +8,8 @@ use lib.ListN.{length, length-replicate}
 use denote.Ref.{now}
 use Rattle.matrix.specs.Letter.{S, T}
 use Rattle.complete.specs.Descent.{phase, phases-text, diagonal-text}
-use Rattle.write_form.specs.Place.{Placed}
-use Rattle.write_form.proofs.Place.{placed-more, placed-room}
+use Rattle.place.specs.Place.{Placed}
+use Rattle.place.proofs.Place.{placed-more, placed-room}
 use Rattle.matrix_to_form.proofs.Phases.{phase-below}
 use Rattle.matrix_to_form.proofs.put_diagonal.Statement.{statement}
 use Rattle.matrix_to_form.proofs.put_diagonal.Tie as tie
@@ -43,23 +43,23 @@ sub-turn c = omega (arith, first-below (c .before))
 abbrev turn : tie.After-phase2 → ℕ
 turn c = (c .phase2 .result + 8 - c .before .phase .result) % 8
 
-put-run-requires : tie.Need-put-run-requires
-put-run-requires c κs = omega (arith, c .before .before .before .before .pre)
+write-run-requires : tie.Need-write-run-requires
+write-run-requires c κs = omega (arith, c .before .before .before .before .pre)
 
 -- the room that the T leaves
-room-T : (c : tie.After-put-run) → c .put-run .result + 10 ≤ length (c .put-run .last .0)
+room-T : (c : tie.After-write-run) → c .write-run .result + 10 ≤ length (c .write-run .last .0)
 room-T c =
-    placed-room 1 10 (omega (arith, length-replicate (turn (c .before .before) % 2) T)) (c .before .before .before .before .before .pre) (c .put-run .ensures)
+    placed-room 1 10 (omega (arith, length-replicate (turn (c .before .before) % 2) T)) (c .before .before .before .before .before .pre) (c .write-run .ensures)
 
-put-run-requires-2 : tie.Need-put-run-requires-2
-put-run-requires-2 c κs = omega (arith, room-T (c .before .before .before))
+write-run-requires-2 : tie.Need-write-run-requires-2
+write-run-requires-2 c κs = omega (arith, room-T (c .before .before .before))
 
-put-run-requires-3 : tie.Need-put-run-requires-3
-put-run-requires-3 c κs =
+write-run-requires-3 : tie.Need-write-run-requires-3
+write-run-requires-3 c κs =
     let two = c .before .before .before in
     let one = two .before .before .before .before in
     let short = length-replicate (turn (one .before .before) / 2) S in
-    omega (arith, first-below (one .before .before .before), placed-room 3 7 (omega arith) (room-T one) (two .put-run2 .ensures))
+    omega (arith, first-below (one .before .before .before), placed-room 3 7 (omega arith) (room-T one) (two .write-run2 .ensures))
 
 same-length : tie.Need-same-length
 same-length c = search needs
@@ -71,9 +71,9 @@ returns c =
     let two = three .before .before .before .before in
     let one = two .before .before .before .before in
     let begin = one .before .before .before .before .before in
-    subst₂ (λ (j l : ℕ). Placed (begin .args .at) (phases-text j l) (now (begin .args .letters)) (three .put-run3 .result) (three .put-run3 .last .0))
+    subst₂ (λ (j l : ℕ). Placed (begin .args .at) (phases-text j l) (now (begin .args .letters)) (three .write-run3 .result) (three .write-run3 .last .0))
     (one .before .before .before .phase .ensures) (one .before .before .phase2 .ensures)
-    (placed-more (one .put-run .ensures) (placed-more (two .put-run2 .ensures) (three .put-run3 .ensures)))
+    (placed-more (one .write-run .ensures) (placed-more (two .write-run2 .ensures) (three .write-run3 .ensures)))
 
 pub put-diagonal-spec : {M : Type 1} → statement M
 put-diagonal-spec =
@@ -85,8 +85,8 @@ put-diagonal-spec =
     cast-second
     add-turn
     sub-turn
-    put-run-requires
-    put-run-requires-2
-    put-run-requires-3
+    write-run-requires
+    write-run-requires-2
+    write-run-requires-3
     same-length
     returns)

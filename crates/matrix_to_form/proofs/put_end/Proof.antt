@@ -4,8 +4,8 @@ use borrow.Author.Needs.{needs}
 use native.Mathlib.Omega.{arith}
 use Rattle.complete.specs.declared.Rest.{Rest}
 use Rattle.complete.specs.Descent.{diagonal-text, word-below}
-use Rattle.write_form.specs.Place.{Placed}
-use Rattle.write_form.proofs.Place.{placed-more, placed-length}
+use Rattle.place.specs.Place.{Placed}
+use Rattle.place.proofs.Place.{placed-more, placed-length}
 use Rattle.matrix_to_form.proofs.Taken.{length-axis}
 use Rattle.matrix_to_form.proofs.put_end.Statement.{statement}
 use Rattle.matrix_to_form.proofs.put_end.Tie as tie

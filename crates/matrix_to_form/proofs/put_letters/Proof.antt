@@ -11,7 +11,7 @@ use Rattle.complete.specs.declared.Rest.{Rest}
 use Rattle.complete.specs.declared.Vector.{Vector}
 use Rattle.complete.specs.Vector.{vector-of}
 use Rattle.complete.specs.Descent.{rest as a-rest, past-syllable, word-below}
-use Rattle.write_form.proofs.Place.{placed-length}
+use Rattle.place.proofs.Place.{placed-length}
 use Rattle.matrix_to_form.specs.Descends.{Descends, Above-zero}
 use Rattle.matrix_to_form.specs.Letters.{most-letters}
 use Rattle.matrix_to_form.proofs.Descends.{descends-start, descends-syllable}

@@ -11,8 +11,8 @@ use Rattle.matrix.specs.Letter.{H, S, T}
 use Rattle.complete.specs.declared.Rest.{Rest}
 use Rattle.complete.specs.Descent.{if-taken, odd-x, odd-y, odd-z, past-S, past-H, past-T, syllable-taken, past-syllable}
 use Rattle.turn.specs.Room.{Roomy-rest}
-use Rattle.write_form.specs.Place.{Placed}
-use Rattle.write_form.proofs.Place.{placed-more, placed-length, placed-room}
+use Rattle.place.specs.Place.{Placed}
+use Rattle.place.proofs.Place.{placed-more, placed-length, placed-room}
 use Rattle.matrix_to_form.proofs.Descends.{roomy, roomy-past-S, roomy-past-H}
 use Rattle.matrix_to_form.proofs.Taken.{once, placed-taken, length-taken}
 use Rattle.matrix_to_form.proofs.put_syllable.Statement.{statement}
@@ -30,44 +30,44 @@ is-left-H : (c : tie.After-past-h) → c .past-h .result ≡ past-H (left-S (c .
 is-left-H c = c .past-h .ensures ∙ ap past-H (is-left-S (c .before .before .before .before .before .before .before))
 
 -- ---- the letters, place by place
-abbrev start : tie.After-put-run → tie.Start
+abbrev start : tie.After-write-run → tie.Start
 start c = c .before .before .before .before .before
 
-first : (c : tie.After-put-run) →
-    Placed (start c .args .at) (if-taken (odd-x (start c .args .rest) && odd-z (start c .args .rest)) S) (now (start c .args .letters)) (c .put-run .result) (c .put-run .last .0)
-first c = placed-taken S (c .before .before .odd-pair .ensures) (c .put-run .ensures)
+first : (c : tie.After-write-run) →
+    Placed (start c .args .at) (if-taken (odd-x (start c .args .rest) && odd-z (start c .args .rest)) S) (now (start c .args .letters)) (c .write-run .result) (c .write-run .last .0)
+first c = placed-taken S (c .before .before .odd-pair .ensures) (c .write-run .ensures)
 
-abbrev after-S : tie.After-put-run2 → tie.After-past-s
+abbrev after-S : tie.After-write-run2 → tie.After-past-s
 after-S c = c .before .before .before .before
 
-abbrev after-first : tie.After-put-run2 → tie.After-put-run
+abbrev after-first : tie.After-write-run2 → tie.After-write-run
 after-first c = after-S c .before .before .before
 
-second : (c : tie.After-put-run2) →
-    Placed (after-first c .put-run .result) (if-taken (odd-y (left-S (after-S c)) && odd-z (left-S (after-S c))) H) (after-first c .put-run .last .0) (c .put-run2 .result) (c .put-run2 .last .0)
+second : (c : tie.After-write-run2) →
+    Placed (after-first c .write-run .result) (if-taken (odd-y (left-S (after-S c)) && odd-z (left-S (after-S c))) H) (after-first c .write-run .last .0) (c .write-run2 .result) (c .write-run2 .last .0)
 second c =
-    placed-taken H (c .before .before .odd-pair2 .ensures ∙ ap (λ (r : Rest). odd-y r && odd-z r) (is-left-S (after-S c))) (c .put-run2 .ensures)
+    placed-taken H (c .before .before .odd-pair2 .ensures ∙ ap (λ (r : Rest). odd-y r && odd-z r) (is-left-S (after-S c))) (c .write-run2 .ensures)
 
-abbrev after-H : tie.After-put-run3 → tie.After-past-h
+abbrev after-H : tie.After-write-run3 → tie.After-past-h
 after-H c = c .before .before .before .before
 
-abbrev after-second : tie.After-put-run3 → tie.After-put-run2
+abbrev after-second : tie.After-write-run3 → tie.After-write-run2
 after-second c = after-H c .before .before .before
 
-third : (c : tie.After-put-run3) →
+third : (c : tie.After-write-run3) →
     let h = past-H (left-S (after-S (after-second c))) in
-    Placed (after-second c .put-run2 .result) (if-taken (odd-x h && odd-y h) T) (after-second c .put-run2 .last .0) (c .put-run3 .result) (c .put-run3 .last .0)
+    Placed (after-second c .write-run2 .result) (if-taken (odd-x h && odd-y h) T) (after-second c .write-run2 .last .0) (c .write-run3 .result) (c .write-run3 .last .0)
 third c =
-    placed-taken T (c .before .before .odd-pair3 .ensures ∙ ap (λ (r : Rest). odd-x r && odd-y r) (is-left-H (after-H c))) (c .put-run3 .ensures)
+    placed-taken T (c .before .before .odd-pair3 .ensures ∙ ap (λ (r : Rest). odd-x r && odd-y r) (is-left-H (after-H c))) (c .write-run3 .ensures)
 
-all-three : (c : tie.After-put-run3) →
+all-three : (c : tie.After-write-run3) →
     let begin = start (after-first (after-second c)) in
-    Placed (begin .args .at) (syllable-taken (begin .args .rest)) (now (begin .args .letters)) (c .put-run3 .result) (c .put-run3 .last .0)
+    Placed (begin .args .at) (syllable-taken (begin .args .rest)) (now (begin .args .letters)) (c .write-run3 .result) (c .write-run3 .last .0)
 unfolding syllable-taken left-S
 all-three c = placed-more (first (after-first (after-second c))) (placed-more (second (after-second c)) (third c))
 
 -- the room that the first letter leaves
-room-first : (c : tie.After-put-run) → c .put-run .result + 2 ≤ length (c .put-run .last .0)
+room-first : (c : tie.After-write-run) → c .write-run .result + 2 ≤ length (c .write-run .last .0)
 room-first c = placed-room 1 2 (length-taken _ S) (start c .pre .0) (first c)
 
 -- ---- the needs
@@ -77,8 +77,8 @@ odd-pair-requires c κs = search needs
 cast-with-s : tie.Need-cast-with-s
 cast-with-s c = search needs
 
-put-run-requires : tie.Need-put-run-requires
-put-run-requires c κs = omega (arith, once (c .before .odd-pair .result), c .before .before .before .before .pre .0)
+write-run-requires : tie.Need-write-run-requires
+write-run-requires c κs = omega (arith, once (c .before .odd-pair .result), c .before .before .before .before .pre .0)
 
 past-s-requires : tie.Need-past-s-requires
 past-s-requires c κs = roomy (c .before .before .before .before .before .before .before .pre .1 .descends)
@@ -89,8 +89,8 @@ odd-pair-requires-2 c κs = search needs
 cast-with-h : tie.Need-cast-with-h
 cast-with-h c = search needs
 
-put-run-requires-2 : tie.Need-put-run-requires-2
-put-run-requires-2 c κs = omega (arith, once (c .before .odd-pair2 .result), room-first (c .before .before .before .before .before .before))
+write-run-requires-2 : tie.Need-write-run-requires-2
+write-run-requires-2 c κs = omega (arith, once (c .before .odd-pair2 .result), room-first (c .before .before .before .before .before .before))
 
 past-h-requires : tie.Need-past-h-requires
 unfolding left-S
@@ -104,8 +104,8 @@ odd-pair-requires-3 c κs = search needs
 cast-with-t : tie.Need-cast-with-t
 cast-with-t c = search needs
 
-put-run-requires-3 : tie.Need-put-run-requires-3
-put-run-requires-3 c κs =
+write-run-requires-3 : tie.Need-write-run-requires-3
+write-run-requires-3 c κs =
     let middle = c .before .before .before .before .before .before in
     omega (arith, once (c .before .odd-pair3 .result), placed-room 1 1 (length-taken _ H) (room-first (after-first middle)) (second middle))
 
@@ -130,15 +130,15 @@ put-syllable-spec =
     (tie.spec
     odd-pair-requires
     cast-with-s
-    put-run-requires
+    write-run-requires
     past-s-requires
     odd-pair-requires-2
     cast-with-h
-    put-run-requires-2
+    write-run-requires-2
     past-h-requires
     odd-pair-requires-3
     cast-with-t
-    put-run-requires-3
+    write-run-requires-3
     past-t-requires
     same-length
     returns)

@@ -6,7 +6,7 @@ use mathlib.Core.Path.{_≡_, refl}
 use borrow.Author.Needs.{needs}
 use denote.Ref.{now}
 use lib.ListN.{length, getD}
-use Rattle.extend_form.specs.State.{codes-text, used}
+use Rattle.stack.specs.State.{codes-text, used}
 use Rattle.write_form.proofs.Codes.{code-below, code-length, codes-short}
 use Rattle.write_form.proofs.codes_length.Statement.{statement}
 use Rattle.write_form.proofs.codes_length.Tie as tie

@@ -8,7 +8,7 @@ use lib.IntN.{ℤ}
 use mir.Syntax.{w64}
 use mir.Val.{SFits}
 use mir.Facts.{toZ-ofZ}
-use Rattle.algebra.proofs.Parity.{odd}
+use Rattle.algebra.specs.Parity.{odd}
 use Rattle.ring.proofs.Bounds.{stored}
 use Rattle.ring.proofs.Divided.{pairs-of-divided, divided-of-pairs}
 use Rattle.ring.proofs.Element.divides_by_root2.Statement.{statement}
