@@ -11,14 +11,13 @@ use Rattle.matrix.specs.declared.Matrix.{Matrix}
 use Rattle.answer.specs.Limits.{coefficient-limit}
 use Rattle.accept_record.specs.Accept.{In-limits, Inside}
 use Rattle.coefficients.specs.Coefficients.{coefficients}
-use Rattle.accept_record.specs.Column.{column-product}
+use Rattle.matrix.specs.Matrix.{column-product}
 use Rattle.accept_record.proofs.Limits.{bounded-in-limit}
 
 -- the products of columns
 pub small-column-product : {x y u v : Element} →
     Small coefficient-limit x → Small coefficient-limit y → Small coefficient-limit u → Small coefficient-limit v →
     Small (2 ^ 61) (column-product x y u v)
-unfolding column-product
 small-column-product hx hy hu hv =
     small-more (lit≤ tt) (small-sum (small-product hx (small-conjugate hu)) (small-product hy (small-conjugate hv)))
 

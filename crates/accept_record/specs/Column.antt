@@ -2,13 +2,9 @@
 use mathlib.Core.Path.{_≡_}
 use lib.IntN.{ℤ, pos, _+ℤ_}
 use Rattle.ring.specs.declared.Element.{Element}
-use Rattle.ring.specs.Element.{sum, product, conjugate, size-whole, size-root2}
+use Rattle.ring.specs.Element.{size-whole, size-root2}
 
 -- "each column's squared sizes sum to 2^k with no √2 part"
 pub record Unit-column (top bottom : Element) (power : ℤ) : Type 0 where
   pub whole : size-whole top +ℤ size-whole bottom ≡ power
   pub root2 : size-root2 top +ℤ size-root2 bottom ≡ pos 0
-
--- "the product of one column with the conjugate of the other": (x, y) with (u, v)
-unfoldable pub column-product : Element → Element → Element → Element → Element
-column-product x y u v = sum (product x (conjugate u)) (product y (conjugate v))

@@ -12,11 +12,11 @@ ghost use mathlib.Core.Path.{_≡_};
 ghost use lib.IntN.{pos};
 ghost use Rattle.ring.specs.Element.{nothing};
 ghost use Rattle.ring.specs.Bounds.{Small};
-ghost use Rattle.matrix.specs.Matrix.{Unitary};
+ghost use Rattle.matrix.specs.Matrix.{Unitary, column-product};
 ghost use Rattle.answer.specs.Limits.{exponent-limit, coefficient-limit};
 ghost use Rattle.accept_record.specs.Accept.{in-limit, Inside, Judged};
 ghost use Rattle.accept_record.specs.Wide.{Search};
-ghost use Rattle.accept_record.specs.Column.{Unit-column, column-product};
+ghost use Rattle.accept_record.specs.Column.{Unit-column};
 
 // What is judged of a record.
 pub enum Judgement {

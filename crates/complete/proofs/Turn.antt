@@ -14,10 +14,10 @@ use Rattle.ring.proofs.Formal.{formal, -ᶠ_, _*ᶠ_, conjugateᶠ, xᶠ, coeff
 use Rattle.ring.proofs.Ring.{elements, sum-comm, conjugate-sum, conjugate-negation}
 use Rattle.ring.proofs.Root2.{root2-squared}
 use Rattle.matrix.specs.declared.Matrix.{Matrix}
-use Rattle.matrix.specs.Matrix.{matrix, times, Same, Equal-over}
+use Rattle.matrix.specs.Matrix.{matrix, times, Same, Equal-over, column-product}
 use Rattle.matrix.specs.Letter.{gate-H, gate-S, gate-X}
 use Rattle.matrix.proofs.Entries.{equal-entries}
-use Rattle.matrix.proofs.Unitary.{Isometry, across}
+use Rattle.matrix.proofs.Unitary.{Isometry}
 use Rattle.complete.specs.declared.Real.{Real}
 use Rattle.complete.specs.declared.Rest.{Rest}
 use Rattle.complete.specs.Vector.{real, negated, two, Bloch, Led}
@@ -91,17 +91,17 @@ module _ (p q : Element) (unit : product p q ≡ one) (moved : Element → Eleme
       (lower-entry (m .top .left) (m .bottom .left)) (lower-entry (m .top .right) (m .bottom .right))
 
   -- products of columns stay
-  phase-across : (x y u v : Element) → across x (moved y) u (moved v) ≡ across x y u v
-  phase-across x y u v =
+  phase-column-product : (x y u v : Element) → column-product x (moved y) u (moved v) ≡ column-product x y u v
+  phase-column-product x y u v =
       ap₂ (λ (a b : Element). sum (product x (conjugate u)) (product a b)) (moved-product y) (conjugate-moved v)
       ∙ combine elements (x ∷ y ∷ conjugate u ∷ conjugate v ∷ p ∷ q ∷ []) (given (var 1 ⊗ var 3) (var 4 ⊗ var 5) (con (pos 1)) unit done)
       (var 0 ⊗ var 2 ⊕ (var 4 ⊗ var 1) ⊗ (var 5 ⊗ var 3)) (var 0 ⊗ var 2 ⊕ var 1 ⊗ var 3) tt
 
   pub phase-isometry : {m : Matrix} → Isometry m → Isometry (without-phase m)
   phase-isometry {m} i = record {
-    left = phase-across (m .top .left) (m .bottom .left) (m .top .left) (m .bottom .left) ∙ i .left;
-    right = phase-across (m .top .right) (m .bottom .right) (m .top .right) (m .bottom .right) ∙ i .right;
-    cross = phase-across (m .top .left) (m .bottom .left) (m .top .right) (m .bottom .right) ∙ i .cross;
+    left = phase-column-product (m .top .left) (m .bottom .left) (m .top .left) (m .bottom .left) ∙ i .left;
+    right = phase-column-product (m .top .right) (m .bottom .right) (m .top .right) (m .bottom .right) ∙ i .right;
+    cross = phase-column-product (m .top .left) (m .bottom .left) (m .top .right) (m .bottom .right) ∙ i .cross;
   }
 
   -- the vector turns about z
@@ -246,8 +246,8 @@ H-restored r =
         ∙ ap (λ (p : Element). product p t) (sym (power k))
 
 -- a product of two columns is doubled by H
-H-across : (x y u v : Element) → across (sum x y) (difference x y) (sum u v) (difference u v) ≡ twice-root2 (across x y u v)
-H-across x y u v =
+H-column-product : (x y u v : Element) → column-product (sum x y) (difference x y) (sum u v) (difference u v) ≡ twice-root2 (column-product x y u v)
+H-column-product x y u v =
     ap₂ (λ (a b : Element). sum (product (sum x y) (conjugate (sum u v))) (product a (conjugate b))) (difference-sum x y) (difference-sum u v)
     ∙ ap₂ (λ (a b : Element). sum (product (sum x y) a) (product (sum x (negation y)) b)) (conjugate-sum u v)
     (conjugate-sum u (negation v) ∙ ap (sum (conjugate u)) (conjugate-negation v))
@@ -265,9 +265,9 @@ H-isometry r i =
     let c = m .bottom .left in
     let d = m .bottom .right in
     record {
-      left = H-across a c a c ∙ ap twice-root2 (i .left) ∙ sym (power (m .exponent));
-      right = H-across b d b d ∙ ap twice-root2 (i .right) ∙ sym (power (m .exponent));
-      cross = H-across a c b d ∙ ap twice-root2 (i .cross) ∙ twice-nothing;
+      left = H-column-product a c a c ∙ ap twice-root2 (i .left) ∙ sym (power (m .exponent));
+      right = H-column-product b d b d ∙ ap twice-root2 (i .right) ∙ sym (power (m .exponent));
+      cross = H-column-product a c b d ∙ ap twice-root2 (i .cross) ∙ twice-nothing;
     }
   where
     power : (k : ℕ) → root2-power (k + 1 + (k + 1)) ≡ twice-root2 (root2-power (k + k))

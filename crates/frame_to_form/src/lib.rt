@@ -9,6 +9,6 @@ pub fn frame_to_form(text: &[u8], buffer: &mut [u8]) -> Written
 {
     match frame::frame_to_matrix(text) {
         Returned::Refused(refusal) => Written::Refused(refusal),
-        Returned::Record(read) => matrix_to_form::matrix_to_form(read, buffer),
+        Returned::Record(read) => accepted_to_form::accepted_to_form(read, buffer),
     }
 }

@@ -10,11 +10,11 @@ use Rattle.ring.specs.declared.Element.{Element}
 use Rattle.ring.specs.Element.{nothing, one, sum, product, conjugate, root2-power}
 use Rattle.ring.proofs.Ring.{elements, conjugate-dot, product-comm, product-one}
 use Rattle.matrix.specs.declared.Matrix.{Matrix}
-use Rattle.matrix.specs.Matrix.{identity, times, adjoint, Equal-over, Same, Unitary}
+use Rattle.matrix.specs.Matrix.{identity, times, adjoint, Equal-over, Same, Unitary, column-product}
 use Rattle.matrix.proofs.Entries.{equal-entries}
 use Rattle.matrix.proofs.Times.{times-assoc, identity-times}
 use Rattle.matrix.proofs.Same.{over-conjugate, same-of-equal, same-sym, same-trans, same-times-left, same-times-right}
-use Rattle.matrix.proofs.Unitary.{across, isometry-of-unitary, crossed-back}
+use Rattle.matrix.proofs.Unitary.{isometry-of-unitary, crossed-back}
 
 -- one entry of the conjugate transpose of a product
 conjugate-entry : (a b c d : Element) →
@@ -48,7 +48,7 @@ same-adjoint {m} {n} s =
 
 -- ---- the inverse of a unitary matrix
 -- a column times the conjugate of another, the factors exchanged
-commuted : (a b c d : Element) → sum (product (conjugate b) a) (product (conjugate d) c) ≡ across a c b d
+commuted : (a b c d : Element) → sum (product (conjugate b) a) (product (conjugate d) c) ≡ column-product a c b d
 commuted a b c d = ap₂ sum (product-comm (conjugate b) a) (product-comm (conjugate d) c)
 
 over-one : (k : ℕ) (x : Element) → x ≡ root2-power k → Equal-over k 0 x one

@@ -15,20 +15,16 @@ use Rattle.ring.proofs.Formal.{formal, _+ᶠ_, _*ᶠ_, wholeᶠ, root2ᶠ, coef
 use Rattle.ring.proofs.Ring.{elements, whole-element, whole-sum, product-comm, conjugate-conjugate, conjugate-dot, conjugate-nothing, size-is-product}
 use Rattle.ring.proofs.Root2.{two-power, root2-power-plus, root2-power-cancel}
 use Rattle.matrix.specs.declared.Matrix.{Matrix}
-use Rattle.matrix.specs.Matrix.{identity, times, adjoint, Equal-over, Same, Unitary}
+use Rattle.matrix.specs.Matrix.{column-product, identity, times, adjoint, Equal-over, Same, Unitary}
 use Rattle.matrix.specs.Letter.{gate, gate-H, gate-S, gate-T, gate-W, gate-X, gate-Y, gate-Z, is-letter, matrix-of, Letters}
 use Rattle.matrix.proofs.Same.{over-conjugate}
 use Rattle.matrix.proofs.Letter.{by-letter}
 
--- a column times the conjugate of another
-abbrev pub across : Element → Element → Element → Element → Element
-across x y u v = sum (product x (conjugate u)) (product y (conjugate v))
-
 -- unitary, as equations between elements
 pub record Isometry (m : Matrix) : Type 0 where
-  pub left : across (m .top .left) (m .bottom .left) (m .top .left) (m .bottom .left) ≡ root2-power (m .exponent + m .exponent)
-  pub right : across (m .top .right) (m .bottom .right) (m .top .right) (m .bottom .right) ≡ root2-power (m .exponent + m .exponent)
-  pub cross : across (m .top .left) (m .bottom .left) (m .top .right) (m .bottom .right) ≡ nothing
+  pub left : column-product (m .top .left) (m .bottom .left) (m .top .left) (m .bottom .left) ≡ root2-power (m .exponent + m .exponent)
+  pub right : column-product (m .top .right) (m .bottom .right) (m .top .right) (m .bottom .right) ≡ root2-power (m .exponent + m .exponent)
+  pub cross : column-product (m .top .left) (m .bottom .left) (m .top .right) (m .bottom .right) ≡ nothing
 
 -- a whole number and a multiple of √2, coefficient by coefficient
 whole-and-root2 : (s r : ℤ) → sum (whole-element s) (product (whole-element r) root2) ≡ element s r (pos 0) (negℤ r)
@@ -39,7 +35,7 @@ whole-and-root2 s r =
 
 -- the squared sizes of a column are the sum of the whole parts, and √2 times the sum of the √2 parts
 pub column-sizes : (x y : Element) →
-    across x y x y
+    column-product x y x y
     ≡ element (size-whole x +ℤ size-whole y) (size-root2 x +ℤ size-root2 y) (pos 0) (negℤ (size-root2 x +ℤ size-root2 y))
 column-sizes x y =
     ap₂ sum (size-is-product x) (size-is-product y)
@@ -49,10 +45,10 @@ column-sizes x y =
     ∙ whole-and-root2 (size-whole x +ℤ size-whole y) (size-root2 x +ℤ size-root2 y)
 
 column-of-sizes : (x y : Element) (k : ℕ) → size-whole x +ℤ size-whole y ≡ pos (2 ^ k) → size-root2 x +ℤ size-root2 y ≡ pos 0 →
-    across x y x y ≡ root2-power (k + k)
+    column-product x y x y ≡ root2-power (k + k)
 column-of-sizes x y k whole root = column-sizes x y ∙ ap₂ (λ (s r : ℤ). element s r (pos 0) (negℤ r)) whole root ∙ two-power k
 
-sizes-of-column : (x y : Element) (k : ℕ) → across x y x y ≡ root2-power (k + k) →
+sizes-of-column : (x y : Element) (k : ℕ) → column-product x y x y ≡ root2-power (k + k) →
     element (size-whole x +ℤ size-whole y) (size-root2 x +ℤ size-root2 y) (pos 0) (negℤ (size-root2 x +ℤ size-root2 y)) ≡ whole-element (pos (2 ^ k))
 sizes-of-column x y k e = sym (column-sizes x y) ∙ e ∙ sym (two-power k)
 
@@ -76,18 +72,18 @@ unitary-of-isometry {m} i =
     }
 
 -- the columns crossed the other way round
-pub crossed-back : (a b c d : Element) → across a c b d ≡ nothing → sum (product (conjugate a) b) (product (conjugate c) d) ≡ nothing
+pub crossed-back : (a b c d : Element) → column-product a c b d ≡ nothing → sum (product (conjugate a) b) (product (conjugate c) d) ≡ nothing
 crossed-back a b c d e =
     sym (conjugate-dot a c (conjugate b) (conjugate d)
     ∙ ap₂ (λ (x y : Element). sum (product (conjugate a) x) (product (conjugate c) y)) (conjugate-conjugate b) (conjugate-conjugate d))
     ∙ ap conjugate e ∙ conjugate-nothing
 
 -- a matrix with orthogonal columns of one size multiplies the product of any two columns by that size
-across-times : (m : Matrix) → Isometry m → (e g f h : Element) →
-    across (sum (product (m .top .left) e) (product (m .top .right) g)) (sum (product (m .bottom .left) e) (product (m .bottom .right) g))
+column-product-times : (m : Matrix) → Isometry m → (e g f h : Element) →
+    column-product (sum (product (m .top .left) e) (product (m .top .right) g)) (sum (product (m .bottom .left) e) (product (m .bottom .right) g))
     (sum (product (m .top .left) f) (product (m .top .right) h)) (sum (product (m .bottom .left) f) (product (m .bottom .right) h))
-    ≡ product (root2-power (m .exponent + m .exponent)) (across e g f h)
-across-times m i e g f h =
+    ≡ product (root2-power (m .exponent + m .exponent)) (column-product e g f h)
+column-product-times m i e g f h =
     let a = m .top .left in
     let b = m .top .right in
     let c = m .bottom .left in
@@ -114,7 +110,7 @@ doubled-sum k l = sym (root2-power-plus (k + k) (l + l)) ∙ ap root2-power (reg
 pub isometry-times : {m n : Matrix} → Isometry m → Isometry n → Isometry (times m n)
 unfolding times
 isometry-times {m} {n} i j =
-    let columns = across-times m i in
+    let columns = column-product-times m i in
     let size = root2-power (m .exponent + m .exponent) in
     record {
       left = columns (n .top .left) (n .bottom .left) (n .top .left) (n .bottom .left) ∙ ap (product size) (j .left) ∙ doubled-sum (m .exponent) (n .exponent);
@@ -165,12 +161,12 @@ isometry-adjoint {m} i =
     }
 
 -- products of columns, over the exponents doubled
-over-across : (k l : ℕ) (x y u v x' y' u' v' : Element) →
+over-column-product : (k l : ℕ) (x y u v x' y' u' v' : Element) →
     Equal-over k l x x' → Equal-over k l y y' → Equal-over k l u u' → Equal-over k l v v' →
-    product (root2-power (k + k)) (across x' y' u' v') ≡ product (root2-power (l + l)) (across x y u v)
+    product (root2-power (k + k)) (column-product x' y' u' v') ≡ product (root2-power (l + l)) (column-product x y u v)
 unfolding Equal-over
-over-across k l x y u v x' y' u' v' ex ey eu ev =
-    ap (λ (r : Element). product r (across x' y' u' v')) (root2-power-plus k k)
+over-column-product k l x y u v x' y' u' v' ex ey eu ev =
+    ap (λ (r : Element). product r (column-product x' y' u' v')) (root2-power-plus k k)
     ∙ combine elements
     (root2-power k ∷ root2-power l ∷ x ∷ y ∷ conjugate u ∷ conjugate v ∷ x' ∷ y' ∷ conjugate u' ∷ conjugate v' ∷ [])
     (given (⊖ (var 1 ⊗ var 4)) (var 1 ⊗ var 2) (var 0 ⊗ var 6) ex
@@ -179,28 +175,28 @@ over-across k l x y u v x' y' u' v' ex ey eu ev =
     (given (⊖ (var 0 ⊗ var 7)) (var 1 ⊗ var 5) (var 0 ⊗ var 9) (over-conjugate k l v v' ev) done))))
     (var 0 ⊗ var 0 ⊗ (var 6 ⊗ var 8 ⊕ var 7 ⊗ var 9)) (var 1 ⊗ var 1 ⊗ (var 2 ⊗ var 4 ⊕ var 3 ⊗ var 5))
     tt
-    ∙ ap (λ (r : Element). product r (across x y u v)) (sym (root2-power-plus l l))
+    ∙ ap (λ (r : Element). product r (column-product x y u v)) (sym (root2-power-plus l l))
 
 pub isometry-same : {m n : Matrix} → Same m n → Isometry m → Isometry n
 isometry-same {m} {n} s i =
     let k = m .exponent in
     let l = n .exponent in
-    let over = over-across k l in
+    let over = over-column-product k l in
     let cancel = root2-power-cancel (k + k) in
     let swap = product-comm (root2-power (l + l)) (root2-power (k + k)) in
     record {
       left =
-          cancel (across (n .top .left) (n .bottom .left) (n .top .left) (n .bottom .left)) (root2-power (l + l))
+          cancel (column-product (n .top .left) (n .bottom .left) (n .top .left) (n .bottom .left)) (root2-power (l + l))
           (over (m .top .left) (m .bottom .left) (m .top .left) (m .bottom .left) (n .top .left) (n .bottom .left) (n .top .left) (n .bottom .left)
           (s .top-left) (s .bottom-left) (s .top-left) (s .bottom-left)
           ∙ ap (product (root2-power (l + l))) (i .left) ∙ swap);
       right =
-          cancel (across (n .top .right) (n .bottom .right) (n .top .right) (n .bottom .right)) (root2-power (l + l))
+          cancel (column-product (n .top .right) (n .bottom .right) (n .top .right) (n .bottom .right)) (root2-power (l + l))
           (over (m .top .right) (m .bottom .right) (m .top .right) (m .bottom .right) (n .top .right) (n .bottom .right) (n .top .right) (n .bottom .right)
           (s .top-right) (s .bottom-right) (s .top-right) (s .bottom-right)
           ∙ ap (product (root2-power (l + l))) (i .right) ∙ swap);
       cross =
-          cancel (across (n .top .left) (n .bottom .left) (n .top .right) (n .bottom .right)) nothing
+          cancel (column-product (n .top .left) (n .bottom .left) (n .top .right) (n .bottom .right)) nothing
           (over (m .top .left) (m .bottom .left) (m .top .right) (m .bottom .right) (n .top .left) (n .bottom .left) (n .top .right) (n .bottom .right)
           (s .top-left) (s .bottom-left) (s .top-right) (s .bottom-right)
           ∙ ap (product (root2-power (l + l))) (i .cross) ∙ times-none elements (root2-power (l + l))

@@ -50,6 +50,10 @@ adjoint m =
     (conjugate (m .top .left)) (conjugate (m .bottom .left))
     (conjugate (m .top .right)) (conjugate (m .bottom .right))
 
+-- a column (x, y) times the conjugate of another, (u, v)
+abbrev pub column-product : Element → Element → Element → Element → Element
+column-product x y u v = sum (product x (conjugate u)) (product y (conjugate v))
+
 -- "Unitary means eight whole-number equations: each column's squared sizes sum to 2^k with no √2 part, and the product
 -- of one column with the conjugate of the other is zero in all four places."
 pub record Unitary (m : Matrix) : Type 0 where
@@ -57,6 +61,4 @@ pub record Unitary (m : Matrix) : Type 0 where
   pub left-root2 : size-root2 (m .top .left) +ℤ size-root2 (m .bottom .left) ≡ pos 0
   pub right-whole : size-whole (m .top .right) +ℤ size-whole (m .bottom .right) ≡ pos (2 ^ m .exponent)
   pub right-root2 : size-root2 (m .top .right) +ℤ size-root2 (m .bottom .right) ≡ pos 0
-  pub columns :
-      sum (product (m .top .left) (conjugate (m .top .right))) (product (m .bottom .left) (conjugate (m .bottom .right)))
-      ≡ nothing
+  pub columns : column-product (m .top .left) (m .bottom .left) (m .top .right) (m .bottom .right) ≡ nothing

@@ -1,3 +1,1 @@
 pub mod Promise
-pub mod Descends
-pub mod Letters

@@ -250,25 +250,29 @@ fixed h = record {
   a3 = record { size = lit≤ (h .3) };
 }
 
+-- two bounds that are numerals
+pub numeral-room : {b c : ℕ} → Holds (leb b (2 ^ 61)) × Holds (leb c (2 ^ 61)) × Holds (leb (b * c) (2 ^ 60)) → Room b c
+numeral-room h = record { left-room = lit≤ (h .0); right-room = lit≤ (h .1); room = lit≤ (h .2) }
+
 pub fixed-factor : {x y : Element} → Small 1 x → Small (2 ^ 60) y → Factors x y
 fixed-factor h k = record {
   left = 1;
   right = 2 ^ 60;
   small-left = h;
   small-right = k;
-  room = record { left-room = lit≤ tt; right-room = lit≤ tt; room = lit≤ tt };
+  room = numeral-room (tt, tt, tt);
 }
 
--- ---- elements within the coefficient limit, 2^20: one times the conjugate of another
-pub conjugate-factor : {x y r : Element} → Small (2 ^ 20) x → Small (2 ^ 20) y → r ≡ conjugate y → Factors x r
-conjugate-factor h k e = record {
-  left = 2 ^ 20;
-  right = 2 ^ 20;
+-- ---- elements within one bound, and the product of one with the conjugate of another
+pub conjugate-factor : {b : ℕ} {x y r : Element} → Room b b → Small b x → Small b y → r ≡ conjugate y → Factors x r
+conjugate-factor {b} room h k e = record {
+  left = b;
+  right = b;
   small-left = h;
-  small-right = subst (Small (2 ^ 20)) (sym e) (small-conjugate k);
-  room = record { left-room = lit≤ tt; right-room = lit≤ tt; room = lit≤ tt };
+  small-right = subst (Small b) (sym e) (small-conjugate k);
+  room = room;
 }
 
-pub small-across : {x y c r : Element} → Small (2 ^ 20) x → Small (2 ^ 20) y → c ≡ conjugate y → r ≡ product x c → Small (2 ^ 60) r
-small-across {x} h k e f =
-    subst (Small (2 ^ 60)) (sym (f ∙ ap (product x) e)) (small-more (lit≤ tt) (small-product h (small-conjugate k)))
+pub small-conjugate-product : {b : ℕ} {x y c r : Element} → Small b x → Small b y → c ≡ conjugate y → r ≡ product x c → Small (4 * (b * b)) r
+small-conjugate-product {b} {x} h k e f =
+    subst (Small (4 * (b * b))) (sym (f ∙ ap (product x) e)) (small-product h (small-conjugate k))

@@ -14,7 +14,7 @@ use Rattle.ring.specs.Element.{element, size-whole, size-root2}
 use Rattle.ring.specs.Bounds.{Small}
 use Rattle.ring.proofs.Bounds.{bounded-fits, same-bits}
 use Rattle.matrix.proofs.Unitary.{column-sizes}
-use Rattle.accept_record.specs.Column.{column-product}
+use Rattle.matrix.specs.Matrix.{column-product}
 use Rattle.accept_record.proofs.Sizes.{small-column-product}
 use Rattle.accept_record.proofs.is_unit.Statement.{statement}
 use Rattle.accept_record.proofs.is_unit.Tie as tie
@@ -26,7 +26,6 @@ column-product-requires c κs = (c .pre .0, (c .pre .1, (c .pre .0, c .pre .1)))
 sizes : (c : tie.After-column-product) → let top = c .before .args .top in let bottom = c .before .args .bottom in
     c .column-product .result
     ≡ element (size-whole top +ℤ size-whole bottom) (size-root2 top +ℤ size-root2 bottom) (pos 0) (negℤ (size-root2 top +ℤ size-root2 bottom))
-unfolding column-product
 sizes c = c .column-product .ensures ∙ column-sizes (c .before .args .top) (c .before .args .bottom)
 
 small : (c : tie.After-column-product) → Small (2 ^ 61) (c .column-product .result)

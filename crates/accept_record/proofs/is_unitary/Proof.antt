@@ -14,9 +14,9 @@ use Rattle.ring.specs.declared.Element.{Element}
 use Rattle.ring.specs.Element.{sum, product, conjugate}
 use Rattle.ring.proofs.Bounds.{stored, kept}
 use Rattle.matrix.specs.declared.Matrix.{Matrix}
-use Rattle.matrix.specs.Matrix.{Unitary}
+use Rattle.matrix.specs.Matrix.{Unitary, column-product}
 use Rattle.answer.specs.Limits.{exponent-limit}
-use Rattle.accept_record.specs.Column.{Unit-column, column-product}
+use Rattle.accept_record.specs.Column.{Unit-column}
 use Rattle.accept_record.proofs.Sizes.{small-entries}
 use Rattle.accept_record.proofs.is_unitary.Statement.{statement}
 use Rattle.accept_record.proofs.is_unitary.Tie as tie
@@ -84,7 +84,6 @@ is-nothing-requires c κs = search needs
 product-is : (c : tie.After-is-nothing) → let m = c .before .before .before .before .before .before .before .args .m in
     sum (product (m .top .left) (conjugate (m .top .right))) (product (m .bottom .left) (conjugate (m .bottom .right)))
     ≡ c .before .column-product .result
-unfolding column-product
 product-is c = sym (c .before .column-product .ensures)
 
 returns-3 : tie.Need-returns-3

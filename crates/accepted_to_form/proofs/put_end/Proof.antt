@@ -1,4 +1,4 @@
--- `matrix_to_form::put_end` meets its contract: the letters of the axis, and then those of the diagonal. Assumes nothing.
+-- `accepted_to_form::put_end` meets its contract: the letters of the axis, and then those of the diagonal. Assumes nothing.
 use mathlib.Core.Path.{subst}
 use borrow.Author.Needs.{needs}
 use native.Mathlib.Omega.{arith}
@@ -6,9 +6,9 @@ use Rattle.complete.specs.declared.Rest.{Rest}
 use Rattle.complete.specs.Descent.{diagonal-text, word-below}
 use Rattle.place.specs.Place.{Placed}
 use Rattle.place.proofs.Place.{placed-more, placed-length}
-use Rattle.matrix_to_form.proofs.Taken.{length-axis}
-use Rattle.matrix_to_form.proofs.put_end.Statement.{statement}
-use Rattle.matrix_to_form.proofs.put_end.Tie as tie
+use Rattle.accepted_to_form.proofs.Taken.{length-axis}
+use Rattle.accepted_to_form.proofs.put_end.Statement.{statement}
+use Rattle.accepted_to_form.proofs.put_end.Tie as tie
 
 put-axis-requires : tie.Need-put-axis-requires
 put-axis-requires c κs = (omega (arith, c .before .before .pre .0), c .before .before .pre .1)

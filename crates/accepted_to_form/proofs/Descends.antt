@@ -13,8 +13,8 @@ use Rattle.complete.proofs.Axis.{off-y-guided, off-x-guided}
 use Rattle.complete.proofs.Complete.{guided-of-unitary}
 use Rattle.turn.specs.Room.{Roomy-rest}
 use Rattle.turn.proofs.Room.{roomy-record}
-use Rattle.matrix_to_form.specs.Descends.{Descends}
-use Rattle.matrix_to_form.proofs.Sizes.{roomy-vector}
+use Rattle.accepted_to_form.specs.Descends.{Descends}
+use Rattle.accepted_to_form.proofs.Sizes.{roomy-vector}
 
 roomy-rest : {r : Rest} {n : ℕ} → Guided r n → r .matrix .exponent ≤ 122 → n ≤ 122 → Roomy-rest r
 roomy-rest g k n = record { matrix = roomy-record (g .unitary) k; vector = roomy-vector (norm-of-guided g) n }

@@ -12,16 +12,16 @@ use Rattle.answer.specs.declared.Refusal.{Refusal}
 use Rattle.answer.specs.declared.Figures.{Figures}
 use Rattle.answer.specs.Limits.{string-limit}
 use Rattle.answer.specs.Refusal.{Said}
-use Rattle.accept_record.specs.Accept.{Accepted-record}
-use Rattle.string_to_form.specs.Promise.{String-to-form, refused-string, with-form as string-squeezed}
-use Rattle.matrix_to_form.specs.Letters.{Spelt}
-use Rattle.matrix_to_form.specs.Promise.{Matrix-to-form, with-form}
+use Rattle.string_to_form.specs.Promise.{String-to-form, refused-string, with-form}
+use Rattle.accepted_to_form.specs.Letters.{Spelt}
+use Rattle.accepted_to_form.specs.Promise.{Accepted-to-form}
 
 not-refused : {m : Matrix} {text : List ℕ} {r : Refusal} → Spelt m text → length text ≤ string-limit → Refused-string text r → ⊥
 not-refused s within (too-long h) = omega arith
 not-refused s within (bad-letter h bad) = passes-or-fails (s .letters) bad
 
-pub by-string : {m : Matrix} {text before after : List ℕ} {answer : Said Figures} → Accepted-record m → Spelt m text → length text ≤ string-limit →
-    String-to-form text before answer after → Matrix-to-form m before answer after
-by-string a s within (refused-string r) = absurd (not-refused s within r)
-by-string a s within (string-squeezed accepted f p) = with-form a (f .form) (same-trans (f .same) (s .same)) p
+pub by-string : {m : Matrix} {text before after : List ℕ} {answer : Said Figures} → Spelt m text → length text ≤ string-limit →
+    String-to-form text before answer after → Accepted-to-form m before answer after
+by-string s within (refused-string r) = absurd (not-refused s within r)
+by-string s within (with-form accepted f p) =
+    record { text = _; form = f .form; same = same-trans (f .same) (s .same); written = p }

@@ -13,7 +13,7 @@ use Rattle.complete.specs.Vector.{vector-of}
 use Rattle.complete.specs.Descent.{rest, syllable-taken, past-syllable, word-below}
 use Rattle.complete.proofs.Complete.{guided-of-unitary, word-letters, word-means}
 use Rattle.place.specs.Place.{Placed, put-at}
-use Rattle.matrix_to_form.specs.Letters.{Spelt}
+use Rattle.accepted_to_form.specs.Letters.{Spelt}
 
 -- what is written stands after what was there
 written-after : {place next : ℕ} {f before after : List ℕ} → Placed place f before next after → take next after ≡ take place before ++ f

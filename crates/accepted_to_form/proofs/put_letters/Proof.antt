@@ -1,4 +1,4 @@
--- `matrix_to_form::put_letters` meets its contract. The loop's invariant: what is left descends, there is room for its letters, and
+-- `accepted_to_form::put_letters` meets its contract. The loop's invariant: what is left descends, there is room for its letters, and
 -- the letters written and those still to come are those of the whole record. The measure is the vector's exponent.
 -- Assumes nothing.
 use mathlib.Core.Path.{_≡_, refl, sym, _∙_, subst}
@@ -12,13 +12,13 @@ use Rattle.complete.specs.declared.Vector.{Vector}
 use Rattle.complete.specs.Vector.{vector-of}
 use Rattle.complete.specs.Descent.{rest as a-rest, past-syllable, word-below}
 use Rattle.place.proofs.Place.{placed-length}
-use Rattle.matrix_to_form.specs.Descends.{Descends, Above-zero}
-use Rattle.matrix_to_form.specs.Letters.{most-letters}
-use Rattle.matrix_to_form.proofs.Descends.{descends-start, descends-syllable}
-use Rattle.matrix_to_form.proofs.Taken.{length-syllable}
-use Rattle.matrix_to_form.proofs.Spelt.{step-down, all-written, spelt}
-use Rattle.matrix_to_form.proofs.put_letters.Statement.{statement}
-use Rattle.matrix_to_form.proofs.put_letters.Tie as tie
+use Rattle.accepted_to_form.specs.Descends.{Descends, Above-zero}
+use Rattle.accepted_to_form.specs.Letters.{most-letters}
+use Rattle.accepted_to_form.proofs.Descends.{descends-start, descends-syllable}
+use Rattle.accepted_to_form.proofs.Taken.{length-syllable}
+use Rattle.accepted_to_form.proofs.Spelt.{step-down, all-written, spelt}
+use Rattle.accepted_to_form.proofs.put_letters.Statement.{statement}
+use Rattle.accepted_to_form.proofs.put_letters.Tie as tie
 
 abbrev Inv-loop : tie.InvT-loop
 Inv-loop letters₀ rest₀ at₀ left₀ letters rest at left =

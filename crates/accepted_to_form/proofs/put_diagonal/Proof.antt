@@ -1,4 +1,4 @@
--- `matrix_to_form::put_diagonal` meets its contract: the runs stand one after the other, and are at most eleven letters.
+-- `accepted_to_form::put_diagonal` meets its contract: the runs stand one after the other, and are at most eleven letters.
 -- Assumes nothing.
 use mathlib.Core.Path.{subst₂}
 use Prim.Native.Nat.{ℕ, _+_, _-_, _/_, _%_, _<_, _≤_}
@@ -10,9 +10,9 @@ use Rattle.matrix.specs.Letter.{S, T}
 use Rattle.complete.specs.Descent.{phase, phases-text, diagonal-text}
 use Rattle.place.specs.Place.{Placed}
 use Rattle.place.proofs.Place.{placed-more, placed-room}
-use Rattle.matrix_to_form.proofs.Phases.{phase-below}
-use Rattle.matrix_to_form.proofs.put_diagonal.Statement.{statement}
-use Rattle.matrix_to_form.proofs.put_diagonal.Tie as tie
+use Rattle.accepted_to_form.proofs.Phases.{phase-below}
+use Rattle.accepted_to_form.proofs.put_diagonal.Statement.{statement}
+use Rattle.accepted_to_form.proofs.put_diagonal.Tie as tie
 
 -- the two powers that were read
 first-below : (c : tie.After-phase) → c .phase .result < 8
