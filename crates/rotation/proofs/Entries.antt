@@ -16,20 +16,20 @@ use Rattle.matrix.proofs.Same.{over-sym, over-trans, same-sym, same-times, same
 use Rattle.form.specs.Count.{t-count}
 use Rattle.rotation.specs.Rotation.{Axis, axis-gate, row-column, trace, surd, Entry, Entries, Least-exponent, Row-zero}
 use Rattle.matrix.proofs.Adjoint.{same-adjoint}
-use Rattle.rotation.proofs.Vector.{unit, text-turn}
-use Rattle.rotation.proofs.Oddness.{higher-is-even}
+use Rattle.rotation.specs.Vector.{at, unit, text-rotated}
+use Rattle.rotation.proofs.Parity.{higher-is-even}
 use Rattle.rotation.proofs.Trace.{half-trace-same, text-entry}
-use Rattle.rotation.proofs.Surd.{odd-surd, surd-whole, real-surd, real-text}
+use Rattle.rotation.proofs.Surd.{odd-surd, surd-whole, real-is-surd}
 
--- "Each entry is (a + b√2)/(√2)^m with whole a and b": m may be the number of T's
+-- over as many √2 as a text has T's each entry is a + b√2 with whole a and b
 unfoldable pub text-entries : {w : List ℕ} → Letters w → Entries (matrix-of w) (t-count w)
 unfolding Entry
 text-entries {w} letters = record {
-  a = λ p q. text-turn w (unit q) p .a0;
-  b = λ p q. text-turn w (unit q) p .a1;
+  a = λ p q. at (text-rotated w (unit q)) p .whole;
+  b = λ p q. at (text-rotated w (unit q)) p .root2;
   entry = λ p q.
       subst (Equal-over (row-column (matrix-of w) p q .exponent + 2) (t-count w) (trace (row-column (matrix-of w) p q)))
-      (real-surd (text-turn w (unit q) p) (real-text letters q p)) (text-entry letters p q);
+      (real-is-surd (at (text-rotated w (unit q)) p)) (text-entry letters p q);
 }
 
 -- entries of one matrix over two exponents are equal over them

@@ -15,10 +15,9 @@ use Rattle.form.specs.Count.{t-count}
 use Rattle.form.specs.Tail.{tail-text}
 use Rattle.form.proofs.Spelled.{form-is-letters}
 use Rattle.rotation.specs.Rotation.{Axis, Entries, Least-exponent, Even, Row-zero, Leftmost, Told}
-use Rattle.rotation.proofs.Vector.{unit, text-turn}
-use Rattle.rotation.proofs.Oddness.{odd-element, mixed, pattern}
+use Rattle.rotation.specs.Vector.{unit, text-rotated}
+use Rattle.rotation.proofs.Parity.{odd-at, mixed, pattern}
 use Rattle.rotation.proofs.Leftmost.{leftmost-pattern, leftmost-row, odd-column, pattern-row, pattern-zero, pattern-other}
-use Rattle.rotation.proofs.Surd.{odd-surd, real-surd, real-text}
 use Rattle.rotation.proofs.Entries.{text-entries, higher-entries, same-entries, least-exponent-unique}
 
 even-of : (n : ℤ) → odd n ≡ false → Even n
@@ -34,16 +33,13 @@ module _ {f : List ℕ} (form : Form f) where
 
   -- the parity that the tail leaves in a column
   bit : Axis → Bool
-  bit q = mixed (text-turn (tail-text (form .parts .tail)) (unit q))
+  bit q = mixed (text-rotated (tail-text (form .parts .tail)) (unit q))
 
   -- the parities of those entries are told by the leftmost syllable and the tail
   parities : {row : Axis} → Leftmost (form .parts) row → (p q : Axis) → odd (entries .a p q) ≡ pattern row (bit q) p
   unfolding entries text-entries bit
   parities leftmost p q =
-      let x = text-turn f (unit q) p in
-      sym (odd-surd (x .a0) (x .a1))
-      ∙ sym (ap odd-element (real-surd x (real-text (form-is-letters form) q p)))
-      ∙ ap (λ (text : List ℕ). odd-element (text-turn text (unit q) p)) (form .spelled)
+      ap (λ (text : List ℕ). odd-at (text-rotated text (unit q)) p) (form .spelled)
       ∙ leftmost-pattern (form .parts) leftmost (unit q) p
 
   -- where there is a T, some entry over the T-count is odd

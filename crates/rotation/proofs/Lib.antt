@@ -1,7 +1,7 @@
-pub mod Vector
-pub mod Trace
-pub mod Oddness
-pub mod Leftmost
+pub mod Rotated
+pub mod Parity
 pub mod Surd
+pub mod Trace
+pub mod Leftmost
 pub mod Entries
 pub mod Lemma

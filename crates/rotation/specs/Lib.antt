@@ -1,1 +1,2 @@
 pub mod Rotation
+pub mod Vector
