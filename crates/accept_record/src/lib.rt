@@ -1,4 +1,6 @@
 // Which matrix records are accepted: the limits on the exponent and the coefficients, and the test for unitary.
+#![tactic(auto)]
+
 ghost use Rattle.std.specs.Prelude.{◌≤◌, ◌^◌, true, ◌↔◌, ◌≡◌, pos};
 ghost use Rattle.ring.specs.Element.{nothing};
 ghost use Rattle.ring.specs.Bounds.{Small};
@@ -13,7 +15,7 @@ use matrix::{Matrix, Row};
 use ring::Element;
 
 // What is judged of a record.
-#[derive(Drop)]
+#[derive(Clone, Copy)]
 pub enum Judgement {
     Accepted,
     Refused(Refusal),

@@ -1,4 +1,6 @@
 // The form of an accepted record: it is taken down to a letter list, and string to form makes the form.
+#![tactic(auto)]
+
 ghost use Rattle.std.specs.Prelude.{◌≡◌, ◌+◌, ◌≤◌, length, take};
 ghost use Rattle.answer.specs.Written.{said};
 ghost use Rattle.accept_record.specs.Accept.{AcceptedRecord};
@@ -16,7 +18,7 @@ use matrix::Matrix;
 const MOST_LETTERS: usize = 254;
 
 // Where the letters end, and what is left of the record.
-#[derive(Drop)]
+#[derive(Clone, Copy)]
 struct Step {
     at: usize,
     rest: Rest,

@@ -1,4 +1,6 @@
 // The letter test, for every reader of letters: is a byte a letter, and where does a text first hold a byte that is none.
+#![tactic(auto)]
+
 ghost use Rattle.std.specs.Prelude.{◌≡◌};
 ghost use Rattle.matrix.specs.Letter.{is_letter};
 ghost use Rattle.lists.specs.Found.{Finds};

@@ -10,7 +10,7 @@ use Rattle.answer.specs.declared.Refusal.TheVariants.{BadLetter, TooLong, NoRoom
 use Rattle.answer.specs.declared.Written.{Written}
 use Rattle.answer.specs.declared.Written.TheVariants.{Form, Refused}
 use Rattle.answer.specs.declared.Returned.{Returned}
-use Rattle.answer.specs.declared.Returned.TheVariants.{Record, Refused as Not-returned}
+use Rattle.answer.specs.declared.Returned.TheVariants.{Record, Refused as NotReturned}
 use Rattle.answer.specs.Refusal.{Said, accepted, refused, number, place, refusal}
 use Rattle.answer.specs.Written.{said}
 use Rattle.answer.specs.Returned.{said as said_returned}
@@ -59,6 +59,6 @@ written_told (Refused r) (Refused s) same = ap Refused (refusal_told r s same)
 
 pub returned_told : (a b : Returned) → said_returned a ≡ said_returned b → a ≡ b
 returned_told (Record m) (Record n) same = let records : m ≡ n = cc in ap Record records
-returned_told (Record m) (Not-returned s) same = absurd (accepted_is_not_refused same)
-returned_told (Not-returned r) (Record n) same = absurd (accepted_is_not_refused (sym same))
-returned_told (Not-returned r) (Not-returned s) same = ap Not-returned (refusal_told r s same)
+returned_told (Record m) (NotReturned s) same = absurd (accepted_is_not_refused same)
+returned_told (NotReturned r) (Record n) same = absurd (accepted_is_not_refused (sym same))
+returned_told (NotReturned r) (NotReturned s) same = ap NotReturned (refusal_told r s same)

@@ -1,4 +1,6 @@
 // Answers: the refusal table with each number and place, the limits that it names, and the figures of a form.
+#![tactic(auto)]
+
 ghost use Rattle.std.specs.Prelude.{◌≡◌};
 ghost use Rattle.answer.specs.Refusal.{number, place};
 
@@ -16,7 +18,7 @@ pub const FRAME_LENGTH: usize = 138;
 
 pub const CHECK_WORD_PLACE: usize = 130;
 
-#[derive(Drop)]
+#[derive(Clone, Copy)]
 pub enum Refusal {
     BadLetter { place: usize },
     TooLong { limit: usize },
@@ -31,7 +33,7 @@ pub enum Refusal {
 }
 
 // What an answer with a form carries.
-#[derive(Drop)]
+#[derive(Clone, Copy)]
 pub struct Figures {
     pub length: usize,
     pub tcount: usize,
@@ -39,14 +41,14 @@ pub struct Figures {
 }
 
 // The answer of a call that writes a form.
-#[derive(Drop)]
+#[derive(Clone, Copy)]
 pub enum Written {
     Form(Figures),
     Refused(Refusal),
 }
 
 // The answer of a call that returns a record.
-#[derive(Drop)]
+#[derive(Clone, Copy)]
 pub enum Returned {
     Record(Matrix),
     Refused(Refusal),

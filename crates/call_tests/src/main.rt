@@ -1,5 +1,7 @@
 // A test program over the calls that the two programs do not make: `read TEXT`, `compare A B`, `matrix TEXT` and
 // `frame TEXT`, one line out for each.
+#![tactic(auto)]
+
 ghost use Rattle.std.specs.Prelude.{◌≡◌, ◌+◌, ◌≤◌, length};
 ghost use Rattle.call_tests.specs.Room.{room};
 ghost use Rattle.answer.specs.Limits.{form_limit, frame_length};
@@ -191,7 +193,7 @@ fn frame_line(text: &[u8], output: &mut [u8], at: usize) -> usize
 }
 
 // Where a word ends, and what comes after the space behind it begins.
-#[derive(Drop)]
+#[derive(Clone, Copy)]
 struct Word {
     end: usize,
     next: usize,
@@ -209,7 +211,7 @@ fn first_word(text: &[u8]) -> Word
 }
 
 // The call that a line names.
-#[derive(Drop)]
+#[derive(Clone, Copy)]
 enum Call {
     Read,
     Compare,

@@ -1,10 +1,12 @@
 // The calls for C and Rust: numbers and lent slices in, one answer word out.
+#![tactic(auto)]
+
 ghost use Rattle.std.specs.Prelude.{◌≡◌};
 ghost use Rattle.answer.specs.Refusal.{number, place};
-ghost use Rattle.answer.specs.Returned.{said as said-returned};
+ghost use Rattle.answer.specs.Returned.{said as said_returned};
 ghost use Rattle.answer.specs.Written.{said};
 ghost use Rattle.coefficients.specs.Coefficients.{coefficients};
-ghost use Rattle.read_form.specs.Promise.{said as Said-read};
+ghost use Rattle.read_form.specs.Promise.{said as said_read};
 ghost use Rattle.compare.specs.Promise.{verdict};
 ghost use Rattle.frame.specs.Calls.{said_stored};
 ghost use Rattle.chorvadhim.specs.Word.{refusal_word, figures_word, reading_word, record_word, frame_word, verdict_word, which_number, packed, Legible, LegibleRefusal, LegibleFigures, LegibleReading, LegibleRecord, LegibleVerdict};
@@ -69,8 +71,8 @@ fn reading_word(reading: Reading) -> u64
 }
 
 fn read_word(read: Read) -> u64
-    requires { Legible LegibleReading (Said-read read) }
-    ensures { result ≡ packed reading_word (Said-read read) }
+    requires { Legible LegibleReading (said_read read) }
+    ensures { result ≡ packed reading_word (said_read read) }
 {
     match read {
         Read::Form(reading) => reading_word(reading),
@@ -123,9 +125,9 @@ fn put_record(m: Matrix, lent: &mut [i64; 16]) -> u64
 
 // The word of a call that returns a record, which is left in a lent array; a refusal leaves the array.
 fn returned_word(returned: Returned, lent: &mut [i64; 16]) -> u64
-    requires { Legible LegibleRecord (said-returned returned) }
-    ensures value { result ≡ packed record_word (said-returned returned) }
-    ensures lent_after { lent.new ≡ left_in (said-returned returned) lent.old }
+    requires { Legible LegibleRecord (said_returned returned) }
+    ensures value { result ≡ packed record_word (said_returned returned) }
+    ensures lent_after { lent.new ≡ left_in (said_returned returned) lent.old }
 {
     match returned {
         Returned::Record(m) => put_record(m, lent),

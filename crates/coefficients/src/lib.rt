@@ -1,4 +1,6 @@
 // A matrix record as its exponent and its sixteen coefficients, and back.
+#![tactic(auto)]
+
 ghost use Rattle.std.specs.Prelude.{◌≤◌, ◌≡◌};
 ghost use Rattle.coefficients.specs.Coefficients.{coefficients, element_at, record_of};
 

@@ -15,7 +15,7 @@ use Rattle.alphabet.proofs.String.{string_refused_once, string_refused_or_accept
 use Rattle.compare.specs.declared.Which.{Which}
 use Rattle.compare.specs.declared.Which.TheVariants.{First, Second}
 use Rattle.compare.specs.declared.Compared.{Compared}
-use Rattle.compare.specs.declared.Compared.TheVariants.{Same as Same-answer, Phase, Different, Refused}
+use Rattle.compare.specs.declared.Compared.TheVariants.{Same as SameAnswer, Phase, Different, Refused}
 use Rattle.compare.specs.Promise.{Verdict, same, phase, different, refused, verdict, PhaseApart, Related, equal, apart, unlike, Compare, first_refused, second_refused, compared}
 use Rattle.compare.proofs.Related.{related_once, related_back, back}
 
@@ -38,19 +38,19 @@ compare_said_once (compared a b r) (compared a' b' s) = related_once b.letters r
 
 -- no two answers are said alike
 verdict_known : (r s : Compared) → verdict r ≡ verdict s → r ≡ s
-verdict_known Same-answer Same-answer e = cc
-verdict_known Same-answer (Phase j) e = cc
-verdict_known Same-answer Different e = cc
-verdict_known Same-answer (Refused which' s) e = cc
-verdict_known (Phase i) Same-answer e = cc
+verdict_known SameAnswer SameAnswer e = cc
+verdict_known SameAnswer (Phase j) e = cc
+verdict_known SameAnswer Different e = cc
+verdict_known SameAnswer (Refused which' s) e = cc
+verdict_known (Phase i) SameAnswer e = cc
 verdict_known (Phase i) (Phase j) e = cc
 verdict_known (Phase i) Different e = cc
 verdict_known (Phase i) (Refused which' s) e = cc
-verdict_known Different Same-answer e = cc
+verdict_known Different SameAnswer e = cc
 verdict_known Different (Phase j) e = cc
 verdict_known Different Different e = cc
 verdict_known Different (Refused which' s) e = cc
-verdict_known (Refused which r) Same-answer e = cc
+verdict_known (Refused which r) SameAnswer e = cc
 verdict_known (Refused which r) (Phase j) e = cc
 verdict_known (Refused which r) Different e = cc
 verdict_known (Refused which r) (Refused which' s) e =

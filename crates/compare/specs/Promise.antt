@@ -11,7 +11,7 @@ use Rattle.alphabet.specs.String.{AcceptedString, RefusedString}
 use Rattle.compare.specs.declared.Which.{Which}
 use Rattle.compare.specs.declared.Which.TheVariants.{First, Second}
 use Rattle.compare.specs.declared.Compared.{Compared}
-use Rattle.compare.specs.declared.Compared.TheVariants.{Same as Same-answer, Phase, Different, Refused}
+use Rattle.compare.specs.declared.Compared.TheVariants.{Same as SameAnswer, Phase, Different, Refused}
 
 -- What a comparison says, in document 01's terms: "same, or phase j, or different, or a refusal with its place and with
 -- which string it concerns".
@@ -23,7 +23,7 @@ pub data Verdict : Type 0 where
 
 -- the paper's number and values for each case of the enum
 abbrev pub verdict : Compared → Verdict
-verdict Same-answer = same
+verdict SameAnswer = same
 verdict (Phase j) = phase j
 verdict Different = different
 verdict (Refused which r) = refused which (number r) (place r)

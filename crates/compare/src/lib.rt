@@ -1,4 +1,6 @@
 // Comparison of two strings: same, a phase apart, or different.
+#![tactic(auto)]
+
 ghost use Rattle.std.specs.Prelude.{◌+◌, ◌%◌, ◌≤◌, ◌<◌, true, ◌↔◌, ◌≡◌, length};
 ghost use Rattle.form.specs.Tail.{tail_a};
 ghost use Rattle.stack.specs.State.{used, state_text, WellFormed};
@@ -9,13 +11,13 @@ use normalise::Normalised;
 use stack::State;
 
 // The string that a refusal concerns.
-#[derive(Drop)]
+#[derive(Clone, Copy)]
 pub enum Which {
     First,
     Second,
 }
 
-#[derive(Drop)]
+#[derive(Clone, Copy)]
 pub enum Compared {
     Same,
     Phase(usize),

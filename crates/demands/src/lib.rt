@@ -1,1 +1,2 @@
 // The customer's demands, as theorems over the promises that the calls make.
+#![tactic(auto)]

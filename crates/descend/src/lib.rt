@@ -1,4 +1,6 @@
 // A unitary record taken down in machine arithmetic: the vector of its first column tells each letter that is taken off.
+#![tactic(auto)]
+
 ghost use Rattle.std.specs.Prelude.{◌&&◌, ◌≡◌, ◌^◌, ◌+ℤ◌, ◌-ℤ◌};
 ghost use Rattle.algebra.specs.Parity.{odd};
 ghost use Rattle.ring.specs.Element.{size_whole, size_root2};

@@ -1,4 +1,6 @@
 // The step that extends a form by one letter: a stack of syllable codes in a lent array, and a tail number.
+#![tactic(auto)]
+
 ghost use Rattle.std.specs.Prelude.{◌+◌, ◌≤◌, ◌<◌, true, [], ◌∷◌, ◌≡◌, length};
 ghost use Rattle.matrix.specs.Letter.{T, is_letter};
 ghost use Rattle.form.specs.Tail.{tail_h};
@@ -9,7 +11,7 @@ ghost use Rattle.extend_form.specs.Extend.{Fresh, Extended, ExtendsByText};
 use stack::State;
 
 // What extending by a text gives: the first bad place, or the state after all of its letters.
-#[derive(Drop)]
+#[derive(Clone, Copy)]
 pub enum Extension {
     Bad(usize),
     Whole(State),

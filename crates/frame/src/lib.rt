@@ -1,4 +1,6 @@
 // Matrix frames: read, and written.
+#![tactic(auto)]
+
 ghost use Rattle.std.specs.Prelude.{◌≡◌, ◌<◌, ◌≤◌, true, ◌↔◌, length};
 ghost use Rattle.answer.specs.Limits.{frame_length, check_word_place};
 ghost use Rattle.answer.specs.Written.{put};
@@ -14,14 +16,14 @@ use answer::{CHECK_WORD_PLACE, FRAME_LENGTH, Refusal, Returned};
 use matrix::Matrix;
 
 // What the frame writer answers.
-#[derive(Drop)]
+#[derive(Clone, Copy)]
 pub enum Stored {
     Frame,
     Refused(Refusal),
 }
 
 // What a search for a bad digit finds.
-#[derive(Drop)]
+#[derive(Clone, Copy)]
 enum Found {
     Bad(usize),
     Nothing,

@@ -1,4 +1,6 @@
 // Frame to form: the record of a frame, and its form.
+#![tactic(auto)]
+
 ghost use Rattle.answer.specs.Written.{said};
 ghost use Rattle.frame_to_form.specs.Promise.{FrameToForm};
 

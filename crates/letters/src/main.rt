@@ -1,4 +1,6 @@
 // The first program: lines of letters from standard input, and one line for each with the form or the refusal.
+#![tactic(auto)]
+
 ghost use Rattle.std.specs.Prelude.{◌≡◌, ◌+◌, ◌≤◌, length};
 ghost use Rattle.answer.specs.Limits.{string_limit};
 ghost use Rattle.report.specs.Report.{line_room};

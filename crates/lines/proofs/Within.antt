@@ -13,7 +13,7 @@ use Rattle.lines.specs.declared.Taken.{Taken}
 use Rattle.lines.specs.declared.Taken.TheVariants.{Line, Open}
 use Rattle.lines.specs.declared.Progress.{Progress}
 use Rattle.lines.specs.declared.Next.{Next}
-use Rattle.lines.specs.declared.Next.TheVariants.{Line as Next-line, End}
+use Rattle.lines.specs.declared.Next.TheVariants.{Line as NextLine, End}
 use Rattle.lines.specs.declared.Step.{Step}
 use Rattle.lines.specs.declared.Step.TheVariants.{Done, Again}
 
@@ -39,7 +39,7 @@ module _ {input input' line line' most most' : ℕ} (i : input ≤ input') (l : 
 
   pub ready_more : (next : Next) → Ready input line most next → Ready input' line' most' next
   unfolding Ready
-  ready_more (Next-line n p) h = (le_trans h.0 l, inside_more h.1)
+  ready_more (NextLine n p) h = (le_trans h.0 l, inside_more h.1)
   ready_more End h = tt
 
 -- at the start, and with other output to be written
@@ -57,7 +57,7 @@ unfolding last
 last_none kept e = rw e refl
 
 -- a byte is a line
-pub last_some : (kept : ℕ) → (kept ≡ 0 → ⊥) → last kept ≡ Next-line kept (record { at = 0; end = 0; put = 0; closed = true })
+pub last_some : (kept : ℕ) → (kept ≡ 0 → ⊥) → last kept ≡ NextLine kept (record { at = 0; end = 0; put = 0; closed = true })
 unfolding last
 last_some zero h = absurd (h refl)
 last_some (suc kept) h = refl
@@ -94,6 +94,6 @@ turned_more i l m (Again kept p) h = (le_trans h.0 l, inside_more i l m h.1)
 
 -- what is ready of a line that came
 pub line_ready :
-    {input line most n : ℕ} {next : Next} {p : Progress} → Ready input line most next → next ≡ Next-line n p → (n ≤ line) × Inside input most p
+    {input line most n : ℕ} {next : Next} {p : Progress} → Ready input line most next → next ≡ NextLine n p → (n ≤ line) × Inside input most p
 unfolding Ready
 line_ready {input} {line} {most} ready e = subst (Ready input line most) e ready

@@ -1,7 +1,7 @@
 -- How far the blocks are used, and what one turn of reading makes of it. What stands in the input that is read, and what
 -- becomes of the output, no contract can say.
 use Rattle.std.specs.Prelude.{ℕ, zero, suc, ◌+◌, ◌≤◌, true, false, List}
-use Rattle.lines.specs.declared.Taken.TheVariants.{Line as Line-taken, Open as Part-taken}
+use Rattle.lines.specs.declared.Taken.TheVariants.{Line as LineTaken, Open as PartTaken}
 use Rattle.lines.specs.declared.Progress.{Progress}
 use Rattle.lines.specs.declared.Next.{Next}
 use Rattle.lines.specs.declared.Next.TheVariants.{Line, End}
@@ -47,8 +47,8 @@ moved p used = record { at = p.at + used; end = p.end; put = p.put; closed = p.c
 -- One turn: the line ends in the part that is still to be taken, or it goes on, and is read on.
 pub data Turns (part so_far : List ℕ) (room input : ℕ) (p : Progress) : Step → List ℕ → Type 0 where
   line_ends :
-      {kept used : ℕ} {buffer : List ℕ} → Takes part so_far room (Line-taken kept used) buffer →
+      {kept used : ℕ} {buffer : List ℕ} → Takes part so_far room (LineTaken kept used) buffer →
       Turns part so_far room input p (Done (Line kept (moved p used))) buffer
   goes_on :
-      {kept : ℕ} {buffer : List ℕ} {step : Step} → Takes part so_far room (Part-taken kept) buffer → ReadsOn input kept step →
+      {kept : ℕ} {buffer : List ℕ} {step : Step} → Takes part so_far room (PartTaken kept) buffer → ReadsOn input kept step →
       Turns part so_far room input p step buffer

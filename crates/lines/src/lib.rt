@@ -1,4 +1,6 @@
 // Lines of standard input, one after the other in bounded memory, and lines of standard output in large blocks.
+#![tactic(auto)]
+
 ghost use Rattle.std.specs.Prelude.{◌≡◌, ◌+◌, ◌-◌, ◌≤◌, min, length, take, drop, ◌++◌};
 ghost use Rattle.lines.specs.Put.{Put};
 ghost use Rattle.lines.specs.Line.{Holds, Takes};
@@ -9,7 +11,7 @@ use libc::{STDIN_FILENO, STDOUT_FILENO};
 pub const LINE_END: u8 = b'\n';
 
 // What a part of the input has of the line that is being read.
-#[derive(Drop)]
+#[derive(Clone, Copy)]
 pub enum Taken {
     // The rest of the line and its end, `used` bytes of the part: `kept` bytes of the line are held.
     Line { kept: usize, used: usize },
@@ -19,7 +21,7 @@ pub enum Taken {
 
 // How far the blocks are used: the input from `at` up to `end` is still to be taken, and `put` bytes of output are still
 // to be written. `closed` is true once no more input can come.
-#[derive(Drop)]
+#[derive(Clone, Copy)]
 pub struct Progress {
     pub at: usize,
     pub end: usize,
@@ -42,7 +44,7 @@ impl Progress {
 
     // The same with so many bytes of output still to be written.
     pub fn with(mut self, put: usize) -> Self
-        ensures { result ≡ put-up-to self put }
+        ensures { result ≡ put_up_to self put }
     {
         self.put = put;
         self
@@ -50,14 +52,14 @@ impl Progress {
 }
 
 // The next line: `length` of its bytes stand in the line buffer.
-#[derive(Drop)]
+#[derive(Clone, Copy)]
 pub enum Next {
     Line { length: usize, progress: Progress },
     End,
 }
 
 // One turn of a search for a line's end.
-#[derive(Drop)]
+#[derive(Clone, Copy)]
 enum Step {
     Done(Next),
     Again { kept: usize, progress: Progress },

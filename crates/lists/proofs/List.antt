@@ -60,6 +60,7 @@ fails_after d (suc i) (a ∷ s) h (more first all) e = later first (fails_after 
 
 -- a list that passes has none
 pub passes_or_fails : {A : Type 0} {test : A → Bool} {s : List A} {p : ℕ} → AllPass test s → FirstFailing test s p → ⊥
+passes_or_fails none bad = elim bad [ ]
 passes_or_fails (more e rest) (here f) = true≢false (sym e ∙ f)
 passes_or_fails (more e rest) (later f bad) = passes_or_fails rest bad
 

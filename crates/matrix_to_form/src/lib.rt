@@ -1,4 +1,6 @@
 // Matrix to form: a record is judged, and an accepted one gets its form.
+#![tactic(auto)]
+
 ghost use Rattle.answer.specs.Written.{said};
 ghost use Rattle.matrix_to_form.specs.Promise.{MatrixToForm};
 

@@ -1,4 +1,6 @@
 // A string normalised on a stack: its refusal, 2 then 1, or the state that spells its form there.
+#![tactic(auto)]
+
 ghost use Rattle.std.specs.Prelude.{◌≤◌, ◌≡◌, length};
 ghost use Rattle.answer.specs.Limits.{string_limit};
 ghost use Rattle.tail.specs.Product.{ProductTable};
@@ -8,7 +10,7 @@ use answer::{Refusal, STRING_LIMIT};
 use extend_form::Extension;
 use stack::State;
 
-#[derive(Drop)]
+#[derive(Clone, Copy)]
 pub enum Normalised {
     Form(State),
     Refused(Refusal),

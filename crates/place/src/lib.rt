@@ -1,4 +1,6 @@
 // A text written into a lent buffer at a place: the place after it is answered, and all other bytes stay.
+#![tactic(auto)]
+
 ghost use Rattle.std.specs.Prelude.{◌+◌, ◌≤◌, length, replicate};
 ghost use Rattle.place.specs.Place.{Placed};
 

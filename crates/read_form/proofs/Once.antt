@@ -14,7 +14,7 @@ use Rattle.answer.specs.Limits.{form_limit}
 use Rattle.answer.specs.Refusal.{Said, accepted, refused}
 use Rattle.read_form.specs.declared.Reading.{Reading}
 use Rattle.read_form.specs.declared.Read.{Read}
-use Rattle.read_form.specs.declared.Read.TheVariants.{Form as a-Form, Refused}
+use Rattle.read_form.specs.declared.Read.TheVariants.{Form as AForm, Refused}
 use Rattle.read_form.specs.Promise.{said, reading_of, LongestPrefix, ReadForm, too_long, bad_letter, not_form, form}
 use Rattle.answer.proofs.Told.{refusal_told, accepted_is_not_refused}
 
@@ -49,9 +49,9 @@ read_form_said_once (form h f) (form k g) = ap accepted (form_reads_once f g)
 
 -- no two cases of the enum are said alike
 read_told : (r s : Read) → said r ≡ said s → r ≡ s
-read_told (a-Form x) (a-Form y) same = let readings : x ≡ y = cc in ap a-Form readings
-read_told (a-Form x) (Refused s) same = absurd (accepted_is_not_refused same)
-read_told (Refused r) (a-Form y) same = absurd (accepted_is_not_refused (sym same))
+read_told (AForm x) (AForm y) same = let readings : x ≡ y = cc in ap AForm readings
+read_told (AForm x) (Refused s) same = absurd (accepted_is_not_refused same)
+read_told (Refused r) (AForm y) same = absurd (accepted_is_not_refused (sym same))
 read_told (Refused r) (Refused s) same = ap Refused (refusal_told r s same)
 
 -- so the value that is returned is one

@@ -9,11 +9,11 @@ use Rattle.answer.specs.Limits.{form_limit}
 use Rattle.answer.specs.Refusal.{Said, accepted, refusal}
 use Rattle.read_form.specs.declared.Reading.{Reading}
 use Rattle.read_form.specs.declared.Read.{Read}
-use Rattle.read_form.specs.declared.Read.TheVariants.{Form as a-Form, Refused}
+use Rattle.read_form.specs.declared.Read.TheVariants.{Form as AForm, Refused}
 
 -- the paper's number and values for each case of the enum
 abbrev pub said : Read → Said Reading
-said (a-Form reading) = accepted reading
+said (AForm reading) = accepted reading
 said (Refused r) = refusal r
 
 -- "The form reader answers length, T-count, H-count and tail number."

@@ -1,4 +1,6 @@
 // The form reader: accepts exactly the texts that are forms, and answers their figures and tail number.
+#![tactic(auto)]
+
 ghost use Rattle.read_form.specs.Part.{Begins, Run, Head, LeadingSyllable, Any, NoFront, OnlyTail, Longest};
 ghost use Rattle.read_form.specs.Promise.{ReadForm, said};
 
@@ -6,7 +8,7 @@ use answer::Refusal;
 use lists::Found;
 
 // What the form reader answers of a form.
-#[derive(Drop)]
+#[derive(Clone, Copy)]
 pub struct Reading {
     pub length: usize,
     pub tcount: usize,
@@ -15,7 +17,7 @@ pub struct Reading {
 }
 
 // The answer of the form reader.
-#[derive(Drop)]
+#[derive(Clone, Copy)]
 pub enum Read {
     Form(Reading),
     Refused(Refusal),

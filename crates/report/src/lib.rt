@@ -1,4 +1,6 @@
 // The lines that the programs write, put into a lent block.
+#![tactic(auto)]
+
 ghost use Rattle.std.specs.Prelude.{◌≡◌, ◌+◌, ◌≤◌, length, take};
 ghost use Rattle.lines.specs.Put.{Put};
 ghost use Rattle.answer.specs.Limits.{form_limit};

@@ -1,11 +1,13 @@
 // Ring elements: four whole numbers (a0, a1, a2, a3), meaning a0 + a1ω + a2ω² + a3ω³ with ω⁴ = −1.
+#![tactic(auto)]
+
 ghost use Rattle.std.specs.Prelude.{◌^◌, true, ◌↔◌, ◌≡◌};
 ghost use Rattle.algebra.specs.Parity.{odd};
 ghost use Rattle.ring.specs.Element.{sum, negation, multiple, turned, product, conjugate, root2};
 ghost use Rattle.ring.specs.Bounds.{Small, Multiplied, Factors};
 ghost use Rattle.ring.specs.Divided.{Root2Divides, Double};
 
-#[derive(Drop)]
+#[derive(Clone, Copy)]
 pub struct Element {
     pub a0: i64,
     pub a1: i64,
@@ -144,7 +146,7 @@ impl Element {
     // Divided by √2: √2 times the element, halved.
     pub fn over_root2(self) -> Element
         requires small { Small (2 ^ 60) self }
-        requires root2_divides { Root2-divides self }
+        requires root2_divides { Root2Divides self }
         ensures { product root2 result ≡ self }
     {
         Element::ROOT2.times(self).halved()
@@ -152,7 +154,7 @@ impl Element {
 
     // Whether the element can be divided by √2: a0 and a2 agree in parity, and a1 and a3.
     pub fn divides_by_root2(self) -> bool
-        ensures { result ≡ true ↔ Root2-divides self }
+        ensures { result ≡ true ↔ Root2Divides self }
     {
         if odd(self.a0) != odd(self.a2) {
             return false;

@@ -1,4 +1,6 @@
 // String to form.
+#![tactic(auto)]
+
 ghost use Rattle.answer.specs.Written.{said};
 ghost use Rattle.string_to_form.specs.Promise.{StringToForm};
 

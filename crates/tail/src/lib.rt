@@ -1,4 +1,6 @@
 // Products of tails: the table of 1,152, for the six letters other than T, and the rule for T.
+#![tactic(auto)]
+
 ghost use Rattle.std.specs.Prelude.{◌<◌, true, ◌≡◌};
 ghost use Rattle.matrix.specs.Letter.{T, is_letter};
 ghost use Rattle.form.specs.Tail.{tails, tail_h};

@@ -1,5 +1,7 @@
 // A letter taken off the left of a record in machine arithmetic, with the vector of its first column: S and T permute and
 // negate coefficients, X exchanges the rows, and H adds and subtracts them.
+#![tactic(auto)]
+
 ghost use Rattle.std.specs.Prelude.{◌≡◌, ◌^◌};
 ghost use Rattle.ring.specs.Bounds.{Small};
 ghost use Rattle.complete.specs.Vector.{negated, over_root2, half_sum, half_difference};

@@ -1,4 +1,6 @@
 // The writing of a form that a stack and a state spell: the length is known before the first byte is written.
+#![tactic(auto)]
+
 ghost use Rattle.std.specs.Prelude.{◌+◌, ◌*◌, ◌≤◌, ◌<◌, ◌^◌, [], ◌∷◌, ◌++◌, ◌≡◌, length, replicate};
 ghost use Rattle.matrix.specs.Letter.{T};
 ghost use Rattle.form.specs.Tail.{tails, head_text, tail_text};
