@@ -1,7 +1,7 @@
 -- √2: its square is two, it cancels and is real, and so do and are its powers; (√2)^(2k) is 2^k. Assumes nothing.
 use mathlib.Core.Path.{◌≡◌, refl, ap, ap₂, sym, ◌∙◌}
 use mathlib.Core.List.{[], ◌∷◌}
-use Prim.Native.Nat.{ℕ, zero, suc, ◌+◌, ◌*◌, ◌^◌}
+use Prim.Native.Nat.{ℕ, zero, suc, ◌+◌, ◌^◌}
 use native.Mathlib.Nat.{zero-add, suc-add, add-suc, pow-suc}
 use lib.IntN.{pos, ◌+ℤ◌, ◌-ℤ◌}
 use Rattle.algebra.proofs.Solver.{var, ◌⊕◌, ◌⊗◌, ⊖◌, solve}

@@ -1,0 +1,20 @@
+-- `ring::Element::negated` meets its contract: the changes of sign fit, by the bounds on the coefficients. Assumes nothing.
+use Rattle.ring.specs.Element.{negation}
+use Rattle.ring.proofs.Bounds.{negation_fits, negation_exact, equal_coefficients}
+use Rattle.ring.proofs.Element.negated.Goals as goal
+
+pub overflow_sub-result : goal.overflow_sub-result
+overflow_sub-result c = search negation_fits
+
+pub overflow_sub-result-2 : goal.overflow_sub-result-2
+overflow_sub-result-2 c = search negation_fits
+
+pub overflow_sub-result-3 : goal.overflow_sub-result-3
+overflow_sub-result-3 c = search negation_fits
+
+pub overflow_sub-result-4 : goal.overflow_sub-result-4
+overflow_sub-result-4 c = search negation_fits
+
+pub returns : goal.returns
+unfolding negation
+returns c = search (negation_exact, equal_coefficients)
