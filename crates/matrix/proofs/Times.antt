@@ -2,7 +2,7 @@
 -- of the matrices. The elements' identities are the solver's. Assumes nothing.
 use mathlib.Core.Path.{◌≡◌, ap, sym, ◌∙◌}
 use mathlib.Core.List.{List, [], ◌∷◌, ◌++◌}
-use Prim.Native.Nat.{ℕ, ◌+◌}
+use Prim.Native.Nat.{ℕ}
 use native.Mathlib.Nat.{add_assoc, add-zero, zero-add}
 use Rattle.algebra.proofs.Solver.{var, con, ◌⊕◌, ◌⊗◌, solve}
 use lib.IntN.{pos}

@@ -1,12 +1,8 @@
 -- `tail::products` meets its contract: the test of the table's rule, computed over the table itself. Assumes nothing.
 use mathlib.Core.Path.{refl}
 use Rattle.tail.proofs.Table.{every, entry_test, table_by_test}
-use Rattle.tail.proofs.products.Statement.{statement}
-use Rattle.tail.proofs.products.Tie as tie
+use Rattle.tail.proofs.products.Goals as goal
 
-returns : tie.Need-returns
+pub returns : goal.returns
 unfolding every entry_test
 returns c = table_by_test _ refl tt
-
-pub products_spec : {M : Type 1} → statement M
-products_spec = tie.close (tie.spec returns)
