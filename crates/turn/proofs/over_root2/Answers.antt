@@ -3,12 +3,8 @@ use borrow.Author.Rules.{sfits_of}
 use mir.Facts.{to_z-of_z}
 use Rattle.complete.specs.Vector.{over_root2}
 use Rattle.turn.proofs.Halves.{half_exact, equal_parts}
-use Rattle.turn.proofs.over_root2.Statement.{statement}
-use Rattle.turn.proofs.over_root2.Tie as tie
+use Rattle.turn.proofs.over_root2.Goals as goal
 
-returns : tie.Need-returns
+pub returns : goal.returns
 unfolding over_root2
 returns c = search (to_z-of_z, half_exact, sfits_of, equal_parts)
-
-pub over_root2_spec : {M : Type 1} → statement M
-over_root2_spec = tie.close (tie.spec returns)

@@ -1,0 +1,14 @@
+-- `turn::half_difference` meets its contract: the differences fit, and a shift is half of a number. Assumes nothing.
+use Rattle.complete.specs.Vector.{half_difference}
+use Rattle.turn.proofs.Halves.{difference_fits, half_difference_exact, equal_parts}
+use Rattle.turn.proofs.half_difference.Goals as goal
+
+pub overflow_sub-result : goal.overflow_sub-result
+overflow_sub-result c = search difference_fits
+
+pub overflow_sub-result-2 : goal.overflow_sub-result-2
+overflow_sub-result-2 c = search difference_fits
+
+pub returns : goal.returns
+unfolding half_difference
+returns c = search (half_difference_exact, equal_parts)

@@ -1,0 +1,15 @@
+-- `turn::negated` meets its contract: the changes of sign fit. Assumes nothing.
+use Rattle.ring.proofs.Bounds.{negation_fits, negation_exact}
+use Rattle.complete.specs.Vector.{negated}
+use Rattle.turn.proofs.Halves.{equal_parts}
+use Rattle.turn.proofs.negated.Goals as goal
+
+pub overflow_sub-result : goal.overflow_sub-result
+overflow_sub-result c = search negation_fits
+
+pub overflow_sub-result-2 : goal.overflow_sub-result-2
+overflow_sub-result-2 c = search negation_fits
+
+pub returns : goal.returns
+unfolding negated
+returns c = search (negation_exact, equal_parts)
