@@ -108,6 +108,7 @@ pub fn take_line(part: &[u8], line: &mut [u8], kept: usize) -> Taken
 }
 
 // The line that the end of the input ends: one if it has a byte.
+#[tactic(auto, using(crate::proofs::Within::last_none, crate::proofs::Within::last_some))]
 fn last_line(kept: usize) -> Next
     ensures { result ≡ last kept }
 {
