@@ -1,24 +1,22 @@
--- Bytes put into a block: a copy over the block's rest puts them; one put after another puts both; and what stands before
+-- Bytes put into a block: a copy over a part of the block puts them; one put after another puts both; and what stands before
 -- the place after them. Assumes nothing.
 use Prim.Native.Nat.{ℕ, ◌+◌, ◌-◌, ◌≤◌}
 use native.Mathlib.Nat.{add_assoc}
 use native.Mathlib.Omega.{arith}
-use mathlib.Core.List.{List, [], ◌++◌, append-nil, append_assoc}
+use mathlib.Core.List.{List, ◌++◌, append_assoc}
 use mathlib.Core.Path.{◌≡◌, sym, ap, ◌∙◌}
-use lib.ListN.{length, take, drop, length-append, length-drop, drop_of_length-le}
-use lib.Seq.{take-length, take_all, drop-drop, take_at, drop-append-add, length-take-le}
+use lib.ListN.{length, take, drop, length-append}
+use lib.Seq.{drop-drop, take_at, drop-append-add, length-take-le}
 use Rattle.lines.specs.Put.{Put, with_bytes}
 
--- the bytes copied over the start of the block's rest, with the block put together again
+-- the bytes copied over as much of the block
 pub put_by_copy :
-    (at : ℕ) (bytes before copied : List ℕ) →
-    copied ≡ take (length bytes) bytes ++ drop (length bytes) (take (length before - at) (drop at before)) →
-    take at before ++ (copied ++ drop (length before - at) (drop at before)) ≡ with_bytes at bytes before
+    (at : ℕ) (bytes before copied : List ℕ) → copied ≡ bytes →
+    take at before ++ (copied ++ drop (at + length bytes - at) (drop at before)) ≡ with_bytes at bytes before
 unfolding with_bytes
 put_by_copy at bytes before copied e =
-    let rest : take (length before - at) (drop at before) ≡ drop at before = take_all (length before - at) (drop at before) (simp length-drop (omega arith)) in
-    let none : drop (length before - at) (drop at before) ≡ [] = drop_of_length-le (drop at before) {i = length before - at} (simp length-drop (omega arith)) in
-    rw (e, rest, none, take-length, append-nil, drop-drop)
+    let size : at + length bytes - at ≡ length bytes = omega arith in
+    rw (e, size, drop-drop)
 
 module _ (at : ℕ) (before bytes : List ℕ) (within : at ≤ length before) where
   -- the bytes and what stands before them

@@ -1,17 +1,16 @@
 -- What is kept of a line: the pieces of a line, each cut at the room that is left, are the line cut at the room; and where
 -- a part of the input has its first line end. Assumes nothing.
-use Prim.Native.Nat.{ℕ, zero, suc, ◌+◌, ◌-◌, ◌≤◌, ◌<◌, min}
-use native.Mathlib.Nat.{le_of_suc-le-suc, not-suc-le-zero, le_of_lt, zero-add}
+use Prim.Native.Nat.{ℕ, zero, suc, ◌+◌, ◌-◌, ◌≤◌, ◌<◌, min, zero-le}
+use native.Mathlib.Nat.{le_of_lt}
 use native.Mathlib.Numerals.{unary_clauses}
 use native.Mathlib.Omega.{arith}
-use mathlib.Core.Bool.{Bool, true, false}
 use mathlib.Core.List.{List, [], ◌∷◌, ◌++◌}
 use mathlib.Core.Path.{◌≡◌, refl, sym, ap, ◌∙◌}
-use lib.Dec.{eqb}
-use lib.ListN.{length, take, drop}
-use lib.Seq.{take-append-add, take_all, take-length, length-take-le}
-use borrow.Author.Tests.{eqb-true, eqb-false}
-use Rattle.bytes.specs.Bytes.{slice, index_of, index_after}
+use lib.ListN.{length, take, drop, take-append-drop}
+use lib.Seq.{take-append-add, take-length, length-take-le, drop-cons}
+use borrow.Author.Tests.{eqb-true}
+use Rattle.memchr.specs.Find.{NoneBefore, Nowhere, Passes, is_byte}
+use Rattle.std.proofs.Common.{eq-eqb, get_or}
 use Rattle.lines.specs.Put.{Put}
 use Rattle.lines.specs.Line.{Holds, Takes, Unbroken, line_end}
 use Rattle.lines.specs.declared.Taken.{Taken}
@@ -61,51 +60,27 @@ held_serves {so_far = so_far} {room = room} (Takes.ends {piece} unbroken rest sp
 held_serves {part} {so_far} {room = room} (Takes.goes_on unbroken holds) =
     Takes.goes_on unbroken (rw (cut_again room so_far part) at holds)
 
--- where the first line end stands
-pub record FirstEnd (part : List ℕ) (n : ℕ) : Type 0 where
-  pub unbroken : Unbroken (take n part)
-  pub split : part ≡ take n part ++ (line_end ∷ drop (suc n) part)
+-- bytes none of which is a line end
+unbroken : (n : ℕ) (part : List ℕ) → ((k : ℕ) → k < n → get_or part k 0 ≡ line_end → ⊥) → Unbroken (take n part)
+unbroken zero part other = Unbroken.none
+unbroken (suc n) [] other = Unbroken.none
+unbroken (suc n) (b ∷ s) other = Unbroken.more (other 0 (omega arith)) (unbroken n s (λ k h. other (suc k) (omega arith)))
 
-first_end_by : (t : Bool) (b : ℕ) (s : List ℕ) → eqb b line_end ≡ t → (index_of line_end s < length s → FirstEnd s (index_of line_end s)) →
-    index_after t (index_of line_end s) < suc (length s) → FirstEnd (b ∷ s) (index_after t (index_of line_end s))
-unfolding index_after
-first_end_by true b s e later h = record { unbroken = Unbroken.none; split = ap (λ (x : ℕ). x ∷ s) (eqb-true b line_end e) }
-first_end_by false b s e later h =
-    let there : FirstEnd s (index_of line_end s) = later (le_of_suc-le-suc h) in
-    record { unbroken = Unbroken.more (eqb-false b line_end e) there.unbroken; split = ap (λ (r : List ℕ). b ∷ r) there.split }
+module _ (part so_far : List ℕ) {room kept : ℕ} {after : List ℕ} where
+  -- a line end within the part
+  pub line_taken :
+      (n : ℕ) → NoneBefore (Passes (is_byte line_end) part) 0 (length part) n × Passes (is_byte line_end) part n →
+      Holds after kept (take room (so_far ++ take n part)) → Takes part so_far room (Line kept (n + 1)) after
+  line_taken n found holds =
+      let here : get_or part n 0 ≡ line_end = eqb-true (get_or part n 0) line_end found.1 in
+      let split : part ≡ take n part ++ (line_end ∷ drop (suc n) part) =
+      sym (take-append-drop n part) ∙ ap (λ (s : List ℕ). take n part ++ s) (drop-cons part n 0 found.0.high ∙ ap (λ (b : ℕ). b ∷ drop (suc n) part) here) in
+      rw (← length-take-le n part (le_of_lt found.0.high))
+      (Takes.ends (unbroken n part (λ k h e. found.0.before k zero-le h (eq-eqb (get_or part k 0) line_end e))) (drop (suc n) part) split holds)
 
-pub first_end : (part : List ℕ) → index_of line_end part < length part → FirstEnd part (index_of line_end part)
-unfolding index_of
-first_end [] h = absurd (not-suc-le-zero h)
-first_end (b ∷ s) h = first_end_by (eqb b line_end) b s refl (first_end s) h
-
-no_end_by : (t : Bool) (b : ℕ) (s : List ℕ) → eqb b line_end ≡ t → (length s ≤ index_of line_end s → Unbroken s) →
-    suc (length s) ≤ index_after t (index_of line_end s) → Unbroken (b ∷ s)
-unfolding index_after
-no_end_by true b s e later h = absurd (not-suc-le-zero h)
-no_end_by false b s e later h = Unbroken.more (eqb-false b line_end e) (later (le_of_suc-le-suc h))
-
-pub no_end : (part : List ℕ) → length part ≤ index_of line_end part → Unbroken part
-unfolding index_of
-no_end [] h = Unbroken.none
-no_end (b ∷ s) h = no_end_by (eqb b line_end) b s refl (no_end s) h
-
--- what the search for a line end in the whole of a part finds
-whole_part : (part : List ℕ) {n : ℕ} → n ≡ 0 + index_of line_end (slice 0 (length part) part) → n ≡ index_of line_end part
-unfolding slice
-whole_part part e = e ∙ rw (take-length, zero-add)
-
-module _
-    (part so_far : List ℕ) {room n kept : ℕ} {after : List ℕ} (found : n ≡ 0 + index_of line_end (slice 0 (length part) part))
-    (holds : Holds after kept (take room (so_far ++ take n part)))
-  where
-    -- a line end within the part
-    pub line_taken : n < length part → Takes part so_far room (Line kept (n + 1)) after
-    line_taken h =
-        let place : n ≡ index_of line_end part = whole_part part found in
-        let end : FirstEnd part n = rw place (first_end part (rw place at h)) in
-        rw (← length-take-le n part (le_of_lt h)) (Takes.ends end.unbroken (drop (suc n) part) end.split holds)
-
-    -- none
-    pub part_taken : length part ≤ n → Takes part so_far room (Open kept) after
-    part_taken h = Takes.goes_on (no_end part (rw (whole_part part found) at h)) (rw (take_all n part h) at holds)
+  -- none
+  pub part_taken :
+      Nowhere (Passes (is_byte line_end) part) 0 (length part) → Holds after kept (take room (so_far ++ part)) →
+      Takes part so_far room (Open kept) after
+  part_taken none holds =
+      Takes.goes_on (rw take-length at (unbroken (length part) part (λ k h e. none k zero-le h (eq-eqb (get_or part k 0) line_end e)))) holds

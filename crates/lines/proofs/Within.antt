@@ -73,6 +73,13 @@ unfoldable pub Turned : ℕ → ℕ → ℕ → Step → Type 0
 Turned input line most (Done next) = Ready input line most next
 Turned input line most (Again kept p) = (kept ≤ line) × Inside input most p
 
+-- what reading on makes of a line that the line buffer holds
+read_on_inside : {input kept : ℕ} (line most : ℕ) {step : Step} → kept ≤ line → ReadsOn input kept step → Turned input line most step
+unfolding Ready Turned
+read_on_inside line most h (ReadsOn.more read) = (h, record { taken = zero-le; read = read; put = zero-le })
+read_on_inside {input} {kept} line most h ReadsOn.ended = last_ready kept input line most h
+read_on_inside line most h ReadsOn.failed = tt
+
 pub turn_inside :
     (input : List ℕ) {so_far buffer : List ℕ} {room most : ℕ} {p : Progress} {step : Step} → Inside (length input) most p →
     Turns (take (p.end - p.at) (drop p.at input)) so_far room (length input) p step buffer → Turned (length input) room p.put step
@@ -80,9 +87,7 @@ unfolding Ready moved Turned
 turn_inside input inside (Turns.line_ends takes) =
     let w = line_inside input inside takes in
     (w.0, record { taken = w.1; read = inside.read; put = le_refl _ })
-turn_inside input inside (Turns.goes_on takes (ReadsOn.more h)) = (taken_within takes, record { taken = zero-le; read = h; put = zero-le })
-turn_inside input {room = room} {p = p} inside (Turns.goes_on {kept} takes ReadsOn.ended) = last_ready kept (length input) room p.put (taken_within takes)
-turn_inside input inside (Turns.goes_on takes ReadsOn.failed) = tt
+turn_inside input {room = room} {p = p} inside (Turns.goes_on takes reads) = read_on_inside room p.put (taken_within takes) reads
 
 -- the same for what is made of a turn in larger blocks
 pub turned_more :

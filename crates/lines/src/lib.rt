@@ -1,4 +1,4 @@
-// Lines of standard input, one after the other in bounded memory, and lines of standard output in large blocks.
+// Lines of an input, one after the other in bounded memory, and lines of an output in large blocks.
 #![tactic(auto)]
 
 ghost use Rattle.std.specs.Prelude.{◌≡◌, ◌+◌, ◌-◌, ◌≤◌, min, length, take, drop, ◌++◌};
@@ -6,7 +6,8 @@ ghost use Rattle.lines.specs.Put.{Put};
 ghost use Rattle.lines.specs.Line.{Holds, Takes};
 ghost use Rattle.lines.specs.Progress.{Inside, fresh, put_up_to, Ready, last, ReadsOn, Turns};
 
-use libc::{STDIN_FILENO, STDOUT_FILENO};
+use memchr::memchr;
+use std::io::{Read, Write};
 
 pub const LINE_END: u8 = b'\n';
 
@@ -70,7 +71,9 @@ pub fn put(bytes: &[u8], block: &mut [u8], at: usize) -> usize
     requires { at + length bytes.now ≤ length block.old }
     ensures { Put at bytes.now block.old block.new result }
 {
-    at + bytes::copy(bytes, &mut block[at..])
+    let next = at + bytes.len();
+    block[at..next].copy_from_slice(bytes);
+    next
 }
 
 pub fn least(a: usize, b: usize) -> usize
@@ -93,19 +96,19 @@ pub fn take_line(part: &[u8], line: &mut [u8], kept: usize) -> Taken
     requires { kept ≤ length line.old }
     ensures { Takes part.now (take kept line.old) (length line.old) result line.new }
 {
-    let end = bytes::scan::find(part, 0, part.len(), LINE_END);
-    let held = hold(&part[..end], line, kept);
-    if end < part.len() {
-        Taken::Line {
-            kept: held,
+    match memchr(LINE_END, part) {
+        Some(end) => Taken::Line {
+            kept: hold(&part[..end], line, kept),
             used: end + 1,
-        }
-    } else {
-        Taken::Open { kept: held }
+        },
+        None => Taken::Open {
+            kept: hold(part, line, kept),
+        },
     }
 }
 
 // The line that the end of the input ends: one if it has a byte.
+#[tactic(auto, using(crate::proofs::Within::last_none, crate::proofs::Within::last_some))]
 fn last_line(kept: usize) -> Next
     ensures { result ≡ last kept }
 {
@@ -125,25 +128,30 @@ fn last_line(kept: usize) -> Next
 
 // Writes what is ready before it waits for input, and reads the next part of the input. An error ends the input, and no
 // line is made of the bytes before it.
-fn refill(input: &mut [u8], output: &[u8], progress: Progress, kept: usize) -> Step
+fn refill<R: Read, W: Write>(
+    reader: &mut R,
+    writer: &mut W,
+    input: &mut [u8],
+    output: &[u8],
+    progress: Progress,
+    kept: usize,
+) -> Step
     requires { progress.put ≤ length output.now }
     ensures { ReadsOn (length input.old) kept result }
 {
     let put = progress.put;
-    if !io::write_all(STDOUT_FILENO, &output[..put]) {
+    if writer.write_all(&output[..put]).is_err() {
         return Step::Done(Next::End);
     }
     if progress.closed {
         return Step::Done(Next::End);
     }
-    let got = libc::read(STDIN_FILENO, input);
-    if got < 0 {
+    let Ok(end) = reader.read(input) else {
         return Step::Done(Next::End);
-    }
-    if got == 0 {
+    };
+    if end == 0 {
         return Step::Done(last_line(kept));
     }
-    let end = io::count(got, input);
     Step::Again {
         kept,
         progress: Progress {
@@ -156,7 +164,15 @@ fn refill(input: &mut [u8], output: &[u8], progress: Progress, kept: usize) -> S
 }
 
 // Takes what the input block has of the line, and where that is not its end reads on.
-fn turn(input: &mut [u8], line: &mut [u8], output: &[u8], progress: Progress, kept: usize) -> Step
+fn turn<R: Read, W: Write>(
+    reader: &mut R,
+    writer: &mut W,
+    input: &mut [u8],
+    line: &mut [u8],
+    output: &[u8],
+    progress: Progress,
+    kept: usize,
+) -> Step
     requires inside { Inside (length input.old) (length output.now) progress }
     requires kept_in_bounds { kept ≤ length line.old }
     ensures { Turns (take (progress.end - progress.at) (drop progress.at input.old)) (take kept line.old) (length line.old) (length input.old) progress result line.new }
@@ -173,12 +189,19 @@ fn turn(input: &mut [u8], line: &mut [u8], output: &[u8], progress: Progress, ke
                 closed: progress.closed,
             },
         }),
-        Taken::Open { kept: held } => refill(input, output, progress, held),
+        Taken::Open { kept: held } => refill(reader, writer, input, output, progress, held),
     }
 }
 
 // Turns until the line ends. The number of turns is one that no input uses up.
-fn seek(input: &mut [u8], line: &mut [u8], output: &[u8], start: Progress) -> Next
+fn seek<R: Read, W: Write>(
+    reader: &mut R,
+    writer: &mut W,
+    input: &mut [u8],
+    line: &mut [u8],
+    output: &[u8],
+    start: Progress,
+) -> Next
     requires { Inside (length input.old) (length output.now) start }
     ensures { Ready (length input.old) (length line.old) start.put result }
 {
@@ -187,7 +210,7 @@ fn seek(input: &mut [u8], line: &mut [u8], output: &[u8], start: Progress) -> Ne
     let mut turns = u64::MAX;
     while turns > 0 {
         turns -= 1;
-        match turn(input, line, output, progress, kept) {
+        match turn(reader, writer, input, line, output, progress, kept) {
             Step::Done(next) => return next,
             Step::Again {
                 kept: held,
@@ -201,8 +224,10 @@ fn seek(input: &mut [u8], line: &mut [u8], output: &[u8], start: Progress) -> Ne
     Next::End
 }
 
-// The next line of standard input, with room for so many bytes in the output block.
-pub fn next_line(
+// The next line of the input, with room for so many bytes in the output block.
+pub fn next_line<R: Read, W: Write>(
+    reader: &mut R,
+    writer: &mut W,
     input: &mut [u8],
     line: &mut [u8],
     output: &[u8],
@@ -215,9 +240,9 @@ pub fn next_line(
 {
     let put = start.put;
     if room <= output.len() - put {
-        return seek(input, line, output, start);
+        return seek(reader, writer, input, line, output, start);
     }
-    if !io::write_all(STDOUT_FILENO, &output[..put]) {
+    if writer.write_all(&output[..put]).is_err() {
         return Next::End;
     }
     let fresh = Progress {
@@ -226,5 +251,5 @@ pub fn next_line(
         put: 0,
         closed: start.closed,
     };
-    seek(input, line, output, fresh)
+    seek(reader, writer, input, line, output, fresh)
 }

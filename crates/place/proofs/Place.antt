@@ -1,13 +1,13 @@
 -- Texts written one after the other: a text and then another at the place after it are both in a row, and the buffer keeps
--- its length. A copy over the buffer's rest writes a text. Assumes nothing.
+-- its length. A copy over a part of the buffer writes a text. Assumes nothing.
 use Prim.Native.Nat.{ℕ, ◌+◌, ◌-◌, ◌≤◌, ◌<◌}
-use native.Mathlib.Nat.{zero-add, add-zero, add_assoc}
+use native.Mathlib.Nat.{add-zero, add_assoc}
 use native.Mathlib.Numerals.{add-one}
 use native.Mathlib.Omega.{arith}
-use mathlib.Core.List.{List, [], ◌∷◌, ◌++◌, append_assoc, append-nil}
+use mathlib.Core.List.{List, [], ◌∷◌, ◌++◌, append_assoc}
 use mathlib.Core.Path.{◌≡◌, refl, sym, ap, ap₂, ◌∙◌}
-use lib.ListN.{length, take, drop, set, length-append, length-take, length-drop, take-append-drop, drop_of_length-le, replicate, replicate-append-replicate}
-use lib.Seq.{take-length, take_all, length-take-le, take_at, drop-append-add, drop-drop, set_split}
+use lib.ListN.{length, take, drop, set, length-append, length-take, length-drop, take-append-drop, replicate, replicate-append-replicate}
+use lib.Seq.{length-take-le, take_at, drop-append-add, drop-drop, set_split}
 use Rattle.place.specs.Place.{put_at, Placed}
 
 pub placed_nothing : (place : ℕ) (before : List ℕ) → place ≤ length before → Placed place [] before place before
@@ -82,17 +82,14 @@ placed_more {place} {middle} {next} {f} {g} {before} {between} {after} first sec
           ∙ put_at_more place f g before first.fits;
     }
 
--- a text copied over the start of the buffer's rest, and the buffer put together again
+-- a text copied over as much of the buffer
 pub placed_by_copy :
-    (place : ℕ) (f before copied : List ℕ) →
-    copied ≡ take (length f) f ++ drop (length f) (take (length before - place) (drop place before)) →
-    take place before ++ (copied ++ drop (length before - place) (drop place before)) ≡ put_at place f before
+    (place : ℕ) (f before copied : List ℕ) → copied ≡ f →
+    take place before ++ (copied ++ drop (place + length f - place) (drop place before)) ≡ put_at place f before
 unfolding put_at
 placed_by_copy place f before copied e =
-    let size : length (drop place before) ≤ length before - place = simp length-drop (omega arith) in
-    let rest : take (length before - place) (drop place before) ≡ drop place before = take_all _ (drop place before) size in
-    let none : drop (length before - place) (drop place before) ≡ [] = drop_of_length-le (drop place before) size in
-    rw (e, rest, none, take-length, append-nil, drop-drop)
+    let size : place + length f - place ≡ length f = omega arith in
+    rw (e, size, drop-drop)
 
 -- one letter more of a run
 pub placed_run_more :

@@ -9,7 +9,9 @@ pub fn write_text(buffer: &mut [u8], place: usize, text: &[u8]) -> usize
     requires { place + length text.now ≤ length buffer.old }
     ensures { Placed place text.now buffer.old result buffer.new }
 {
-    place + bytes::copy(text, &mut buffer[place..])
+    let next = place + text.len();
+    buffer[place..next].copy_from_slice(text);
+    next
 }
 
 // A letter, a number of times.
