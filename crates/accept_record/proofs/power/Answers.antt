@@ -2,15 +2,13 @@
 use mathlib.Core.Path.{◌≡◌, sym, ◌∙◌, ap, subst}
 use Prim.Native.Nat.{ℕ, ◌*◌, ◌^◌, ◌%◌, ◌<◌, ◌≤◌}
 use native.Mathlib.Nat.{one-mul, mod-eq_of_lt, lt_of_le_of_lt}
-use borrow.Author.Rules.{rules}
 use lib.Dec.{lit<}
 use lib.Pow.{pow_mono}
 use lib.IntN.{pos}
 use mir.Syntax.{w64}
 use mir.Facts.{to_z_pos}
 use Rattle.answer.specs.Limits.{exponent_limit}
-use Rattle.accept_record.proofs.power.Statement.{statement}
-use Rattle.accept_record.proofs.power.Tie as tie
+use Rattle.accept_record.proofs.power.Goals as goal
 
 module _ {k : ℕ} (h : k ≤ exponent_limit) where
   small : 2 ^ k < 2 ^ 63
@@ -19,16 +17,10 @@ module _ {k : ℕ} (h : k ≤ exponent_limit) where
   shifted : (1 * 2 ^ k) % 2 ^ 64 ≡ 2 ^ k
   shifted = ap (λ (n : ℕ). n % 2 ^ 64) (one-mul (2 ^ k)) ∙ mod-eq_of_lt (lt_of_le_of_lt (pow_mono h) (lit< tt))
 
-shl_p : tie.Need-overflow-shl-p
-shl_p c = search rules
+pub overflow_cast-result : goal.overflow_cast-result
+overflow_cast-result c = record { sfits = subst (λ (n : ℕ). n < 2 ^ 63) (sym (shifted c.requires)) (small c.requires) }
 
-cast_result : tie.Need-overflow-cast-result
-cast_result c = record { sfits = subst (λ (n : ℕ). n < 2 ^ 63) (sym (shifted c.requires)) (small c.requires) }
-
-returns : tie.Need-returns
+pub returns : goal.returns
 returns c =
     to_z_pos w64 (subst (λ (n : ℕ). n < 2 ^ 63) (sym (shifted c.requires)) (small c.requires))
     ∙ ap pos (shifted c.requires)
-
-pub power_spec : {M : Type 1} → statement M
-power_spec = tie.close (tie.spec shl_p cast_result returns)
