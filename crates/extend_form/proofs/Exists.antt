@@ -86,9 +86,9 @@ extended_by :
     (f : List ℕ) × Form f × Extends (codes_text codes ++ tail_text n) w f
 extended_by {codes} n good n< none =
     let f = codes_text codes ++ tail_text n in (f, codes_form good n<, extends_none f)
-extended_by n good n< (more {a = b} letter rest) =
+extended_by {codes = codes} n good n< (more {a = b} letter rest) =
     let step = next n b good n< letter (eqb b T) refl in
-    let found = extended_by step.tail step.good step.in_tails rest in
+    let found = extended_by {codes = step.next_codes} step.tail step.good step.in_tails rest in
     (found.0, found.1, extends_more step.extends found.2)
 
 -- every letter list has a form, with no more T's
