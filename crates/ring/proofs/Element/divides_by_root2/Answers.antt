@@ -33,8 +33,7 @@ parity z f e = e ∙ ap odd (to_z-of_z f)
 pub returns-then-odd : goal.returns-then-odd
 returns-then-odd c =
     let outer_left : c.odd.result ≡ odd c.args.self.a0 = parity c.args.self.a0 (search sfits_of) c.odd.ensures in
-    let outer_right : c.odd-2.result ≡ odd c.args.self.a2 = parity c.args.self.a2 (search sfits_of) c.odd-2.ensures in
-    (
+    let outer_right : c.odd-2.result ≡ odd c.args.self.a2 = parity c.args.self.a2 (search sfits_of) c.odd-2.ensures in (
       λ e. absurd (false≢true e),
       λ d.
           sym (not-true _ c.if-odd.true) ∙ agreed _ _ (outer_left ∙ (pairs_of_divided d).outer ∙ sym outer_right),
