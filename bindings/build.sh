@@ -36,8 +36,9 @@ esac
 
 # The static library, proved, and the safe wrapper over it.
 build_library() {
-    rt staticlib chorvadhim >"$out/library.log" || { cat "$out/library.log"; exit 1; }
-    "${rust_compiler[@]}" --edition 2021 -C opt-level=3 --crate-type rlib -L native=target/staticlib \
+    (cd crates/chorvadhim_c && rt lib) >"$out/library.log" || { cat "$out/library.log"; exit 1; }
+    cp crates/chorvadhim_c/out/libchorvadhim_c.a "$out/libchorvadhim.a"
+    "${rust_compiler[@]}" --edition 2021 -C opt-level=3 --crate-type rlib -L "native=$out" \
         bindings/chorvadhim.rs -o "$out/libchorvadhim.rlib"
 }
 
@@ -50,7 +51,7 @@ build_rust() {
 # A C program over the header.
 build_c() {
     "${c_compiler[@]}" -std=c99 -pedantic -O2 -Wall -Wextra -Werror -Ibindings \
-        "bindings/$1.c" target/staticlib/libchorvadhim.a -o "$out/$1"
+        "bindings/$1.c" "$out/libchorvadhim.a" -o "$out/$1"
 }
 
 run() {

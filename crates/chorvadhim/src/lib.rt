@@ -135,15 +135,13 @@ fn returned_word(returned: Returned, lent: &mut [i64; 16]) -> u64
     }
 }
 
-#[unsafe(no_mangle)]
-pub extern "C" fn chorvadhim_string_to_form(text: &[u8], buffer: &mut [u8]) -> u64
+pub fn chorvadhim_string_to_form(text: &[u8], buffer: &mut [u8]) -> u64
     ensures { StringToFormWord text.now buffer.old result buffer.new }
 {
     written_word(string_to_form::string_to_form(text, buffer))
 }
 
-#[unsafe(no_mangle)]
-pub extern "C" fn chorvadhim_matrix_to_form(
+pub fn chorvadhim_matrix_to_form(
     exponent: u32,
     coefficients: &[i64; 16],
     buffer: &mut [u8],
@@ -154,43 +152,37 @@ pub extern "C" fn chorvadhim_matrix_to_form(
     written_word(matrix_to_form::matrix_to_form(m, buffer))
 }
 
-#[unsafe(no_mangle)]
-pub extern "C" fn chorvadhim_frame_to_form(text: &[u8], buffer: &mut [u8]) -> u64
+pub fn chorvadhim_frame_to_form(text: &[u8], buffer: &mut [u8]) -> u64
     ensures { FrameToFormWord text.now buffer.old result buffer.new }
 {
     written_word(frame_to_form::frame_to_form(text, buffer))
 }
 
-#[unsafe(no_mangle)]
-pub extern "C" fn chorvadhim_read_form(text: &[u8]) -> u64
+pub fn chorvadhim_read_form(text: &[u8]) -> u64
     ensures { ReadFormWord text.now result }
 {
     read_word(read_form::read_form(text))
 }
 
-#[unsafe(no_mangle)]
-pub extern "C" fn chorvadhim_compare(first: &[u8], second: &[u8]) -> u64
+pub fn chorvadhim_compare(first: &[u8], second: &[u8]) -> u64
     ensures { CompareWord first.now second.now result }
 {
     compared_word(compare::compare(first, second))
 }
 
-#[unsafe(no_mangle)]
-pub extern "C" fn chorvadhim_string_to_matrix(text: &[u8], coefficients: &mut [i64; 16]) -> u64
+pub fn chorvadhim_string_to_matrix(text: &[u8], coefficients: &mut [i64; 16]) -> u64
     ensures { StringToMatrixWord text.now coefficients.old result coefficients.new }
 {
     returned_word(string_to_matrix::string_to_matrix(text), coefficients)
 }
 
-#[unsafe(no_mangle)]
-pub extern "C" fn chorvadhim_frame_to_matrix(text: &[u8], coefficients: &mut [i64; 16]) -> u64
+pub fn chorvadhim_frame_to_matrix(text: &[u8], coefficients: &mut [i64; 16]) -> u64
     ensures { FrameToMatrixWord text.now coefficients.old result coefficients.new }
 {
     returned_word(frame::frame_to_matrix(text), coefficients)
 }
 
-#[unsafe(no_mangle)]
-pub extern "C" fn chorvadhim_matrix_to_frame(
+pub fn chorvadhim_matrix_to_frame(
     exponent: u32,
     coefficients: &[i64; 16],
     buffer: &mut [u8],
