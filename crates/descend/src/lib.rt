@@ -158,6 +158,7 @@ pub fn off_x(r: Rest) -> Rest
     r
 }
 
+#[tactic(auto, using(crate::proofs::Choice::turned_up_below, crate::proofs::Choice::turned_up_not_below))]
 pub fn turned_up(r: Rest) -> Rest
     requires { RoomyRest r }
     ensures { result ≡ turned_up r }
