@@ -4,4 +4,5 @@ pub mod Spelled
 pub mod Once
 pub mod RoundTrip
 pub mod Parts
+pub mod Refused
 pub mod Worked

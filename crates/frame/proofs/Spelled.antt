@@ -7,7 +7,7 @@ use Rattle.answer.specs.Limits.{frame_length}
 use Rattle.coefficients.specs.Coefficients.{coefficients}
 use Rattle.coefficients.proofs.ReadBack.{sixteen, coefficients_once}
 use Rattle.frame.specs.Digit.{digits, Digits}
-use Rattle.frame.specs.Frame.{words, words_text, check_word, frame_text, Spells}
+use Rattle.frame.specs.Frame.{words, words_text, frame_text, Spells}
 use Rattle.frame.proofs.Digits.{digits_length, digits_are_digits, digits_once, join_once}
 use Rattle.frame.proofs.Words.{words_length, words_text_length, words_text_digits, words_once}
 

@@ -1,5 +1,6 @@
 -- Coefficients as words in two's complement, and words in eight digits each: they tell the coefficients. Assumes nothing.
-use Rattle.std.proofs.Common.{◌≡◌, ℕ, zero, suc, ◌-◌, ◌*◌, ◌^◌, ◌<◌, Bool, true, false, cond, ltb, List, [], ◌∷◌, length, ℤ, pos, negsuc, ◌-ℤ◌, sym, refl, ap, ◌∙◌, ap₂, true≢false, le_of_suc-le-suc, not-suc-le-zero, zero-add, arith, length-append, to_z-of_z, w64, SFits, ltb-true}
+use Rattle.std.proofs.Common.{◌≡◌, ℕ, zero, suc, ◌-◌, ◌*◌, ◌^◌, ◌<◌, Bool, true, false, cond, ltb, List, [], ◌∷◌, length, ℤ, pos, negsuc, ◌-ℤ◌, sym, refl, ap, ◌∙◌, ap₂, true≢false, le_of_suc-le-suc, not-suc-le-zero, zero-add, arith, length-append, to_z-of_z, w64, SFits, to_z, ltb-true, ◌≤◌, subst}
+use mir.Facts.{to_z_pos}
 use lib.Signed.{lt_z}
 use Rattle.lists.specs.List.{none, more}
 use Rattle.lists.proofs.List.{every_join}
@@ -73,6 +74,31 @@ minus_one_less_negative n = by (ltb (suc n) 1) refl
     by : (t : Bool) → ltb (suc n) 1 ≡ t → cond t (negsuc (1 - suc (suc n))) (pos (suc n - 1)) ≡ pos n
     by true e = absurd (not-suc-le-zero (le_of_suc-le-suc (ltb-true (suc n) 1 e)))
     by false e = ap pos (omega arith)
+
+-- what the code computes for a word from 2^31 up
+negative : (w : ℕ) → 2 ^ 31 ≤ w → negsuc 0 -ℤ to_z w64 (4294967295 - w) ≡ negsuc (4294967295 - w)
+negative w h = ap (λ (z : ℤ). negsuc 0 -ℤ z) (to_z_pos w64 {n = 4294967295 - w} (omega arith)) ∙ minus_one_less (4294967295 - w)
+
+pub negative_fits : (w : ℕ) → 2 ^ 31 ≤ w → SFits w64 (negsuc 0 -ℤ to_z w64 (4294967295 - w))
+negative_fits w h = subst (SFits w64) (sym (negative w h)) (record { sfits = omega arith })
+
+-- the coefficient of a word below 2^31 and of one from there up, as the machine hands it on
+pub low_word : (w : ℕ) → w < 2 ^ 31 → word (to_z w64 w) ≡ w
+unfolding word
+low_word w h = ap word (to_z_pos w64 {n = w} (omega arith))
+
+pub low_fits : (w : ℕ) → w < 2 ^ 31 → InWord (to_z w64 w)
+low_fits w h = subst InWord (sym (to_z_pos w64 {n = w} (omega arith))) (from_zero h)
+
+high_is : (w : ℕ) → 2 ^ 31 ≤ w → stored (negsuc 0 -ℤ to_z w64 (4294967295 - w)) ≡ negsuc (4294967295 - w)
+high_is w h = to_z-of_z (negative_fits w h) ∙ negative w h
+
+pub high_word : (w : ℕ) → 2 ^ 31 ≤ w → w < 2 ^ 32 → word (stored (negsuc 0 -ℤ to_z w64 (4294967295 - w))) ≡ w
+unfolding word
+high_word w h k = ap word (high_is w h) ∙ omega arith
+
+pub high_fits : (w : ℕ) → 2 ^ 31 ≤ w → InWord (stored (negsuc 0 -ℤ to_z w64 (4294967295 - w)))
+high_fits w h = subst InWord (sym (high_is w h)) (below_zero {n = 4294967295 - w} (omega arith))
 
 -- ---- many words
 pub words_length : (list : List ℤ) → length (words list) ≡ length list

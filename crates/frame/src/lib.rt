@@ -30,6 +30,7 @@ enum Found {
 }
 
 // 0-9 and a-f.
+#[tactic(auto, using(crate::proofs::Digits::low_digit, crate::proofs::Digits::high_digit, crate::proofs::Digits::below_digits, crate::proofs::Digits::between_digits, crate::proofs::Digits::above_digits))]
 fn is_digit(b: u8) -> bool
     ensures { result ≡ is_digit b }
 {
@@ -131,6 +132,7 @@ fn write_number(part: &mut [u8], n: u32)
 }
 
 // The coefficient that a word stands for in two's complement.
+#[tactic(auto, using(crate::proofs::Words::negative_fits, crate::proofs::Words::low_word, crate::proofs::Words::low_fits, crate::proofs::Words::high_word, crate::proofs::Words::high_fits))]
 fn coefficient(w: u32) -> i64
     ensures { Coefficient w result }
 {
@@ -229,6 +231,7 @@ fn read_digits(text: &[u8]) -> Returned
 }
 
 // Frame to matrix.
+#[tactic(auto, using(crate::proofs::Refused::short_frame, crate::proofs::Refused::long_frame))]
 pub fn frame_to_matrix(text: &[u8]) -> Returned
     ensures { FrameToMatrix text.now (said result) }
 {
@@ -261,6 +264,7 @@ fn write_digits(buffer: &mut [u8], m: Matrix)
 }
 
 // Matrix to frame.
+#[tactic(auto, using(crate::proofs::Refused::short_buffer, crate::proofs::Refused::long_buffer))]
 pub fn matrix_to_frame(m: Matrix, buffer: &mut [u8]) -> Stored
     ensures { MatrixToFrame m buffer.old (said_stored result) buffer.new }
 {

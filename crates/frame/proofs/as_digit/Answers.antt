@@ -5,4 +5,7 @@ use Rattle.frame.proofs.Digits.{digit_is_digit, folded_value}
 use Rattle.frame.proofs.as_digit.Goals as goal
 
 pub returns : goal.returns
-returns c = record { result_value = ap is_digit c.digit_of.ensures ∙ digit_is_digit _ (omega arith); value = λ e. c.digit_of.ensures ∙ folded_value _ e }
+returns c = record {
+  result_value = ap is_digit c.digit_of.ensures ∙ digit_is_digit _ (omega arith);
+  value = λ e. c.digit_of.ensures ∙ folded_value _ e;
+}

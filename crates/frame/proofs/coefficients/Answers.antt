@@ -1,6 +1,6 @@
 -- `frame::coefficients` meets its contract. The loop's invariant: the first `i` words are those of the first `i`
 -- coefficients. The measure is what is left of sixteen. Assumes nothing.
-use Rattle.std.proofs.Common.{◌≡◌, ◌+◌, ◌-◌, ◌*◌, ◌≤◌, List, length, take, ℤ, sym, refl, ap, ◌∙◌, subst, arith, length-set, take_all, rules}
+use Rattle.std.proofs.Common.{◌+◌, ◌*◌, List, ℤ, sym, refl, ap, ◌∙◌, subst, arith, length-set, take_all, rules}
 use Rattle.lists.specs.List.{none}
 use Rattle.frame.specs.Frame.{words, words_text, InWords}
 use Rattle.frame.proofs.Parts.{part_digits, part_length, read_step}
@@ -17,9 +17,6 @@ number-requires c =
       digits = part_digits (8 * i) (8 * i + 8) c.args.text.now c.requires.digits;
       text_len_bound = omega (arith, part_length (8 * i) (8 * i + 8) c.args.text.now (omega arith) (omega arith));
     }
-
-pub coefficient-requires : goal.coefficient-requires
-coefficient-requires c = tt
 
 pub loop-i-preserved : goal.loop-i-preserved
 loop-i-preserved c =

@@ -1,9 +1,6 @@
 -- `frame::first_bad_digit` meets its contract. The loop's invariant: the text before `i` is of digits alone. The measure is
 -- what is left of the text. Assumes nothing.
-use Rattle.std.proofs.Common.{◌-◌, ◌≤◌, length, take, sym, ◌∙◌, add-one, take_all, rules}
-use borrow.Author.Tests.{not-true, not-false}
-use Rattle.lists.specs.List.{none}
-use Rattle.lists.proofs.List.{every_grows, fails_after}
+use Rattle.std.proofs.Common.{◌-◌, ◌≤◌, length, take}
 use Rattle.frame.specs.Digit.{Digits}
 use Rattle.frame.proofs.first_bad_digit.Given as goal
 

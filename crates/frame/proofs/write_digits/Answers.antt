@@ -1,6 +1,6 @@
 -- `frame::write_digits` meets its contract: three parts are put one after the other, and the bytes after them stay.
 -- Assumes nothing.
-use Rattle.std.proofs.Common.{◌≡◌, ℕ, ◌+◌, ◌≤◌, List, ◌++◌, length, take, drop, ℤ, sym, ap, ◌∙◌, subst, ap₂, append_assoc, arith, length-append, length-take-le, rules}
+use Rattle.std.proofs.Common.{◌≡◌, ℕ, ◌+◌, ◌≤◌, List, ◌++◌, length, take, drop, ℤ, sym, ap, ◌∙◌, subst, ap₂, append_assoc, arith, length-append, length-take-le}
 use borrow.Rule.Slice.PartMut.{put_mid}
 use Rattle.matrix.specs.declared.Matrix.{Matrix}
 use Rattle.answer.specs.Limits.{frame_length}
@@ -39,33 +39,27 @@ module _ (m : Matrix) (before first second : List ℕ) (room : frame_length ≤ 
       ∙ ap₂ ◌++◌ (append_assoc first second third ∙ ap₂ ◌++◌ e (ap₂ ◌++◌ f g))
       (ap (λ (n : ℕ). drop n before) (sym (frame_text_length m (check_word m))))
 
+-- a number is written into a part in as many digits as the part has bytes
+as_long : {part : List ℕ} {size k : ℕ} (n : ℕ) → part ≡ digits size n → size ≡ k → part ≡ digits k n
+as_long n e f = e ∙ ap (λ (k : ℕ). digits k n) f
+
 pub slice_bounds-write_number-end-2 : goal.slice_bounds-write_number-end-2
 slice_bounds-write_number-end-2 c = sym (length-take-le 2 c.args.buffer.now (omega arith))
 
-pub write_number-requires : goal.write_number-requires
-write_number-requires c = tt
-
-pub coefficients-requires : goal.coefficients-requires
-coefficients-requires c = tt
-
 pub write_words-requires : goal.write_words-requires
 write_words-requires c =
-    let exponent_digits : c.write_number.new.part ≡ digits 2 c.args.m.exponent = c.write_number.ensures
-    ∙ ap (λ (k : ℕ). digits k c.args.m.exponent) (length-take-le 2 c.args.buffer.now (omega arith)) in
-    record { part_len = after_front c.write_number.new.part c.args.buffer.now 2 128 (ap length exponent_digits ∙ digits_length 2 c.args.m.exponent) (omega arith); in_words = subst InWords (sym c.coefficients.ensures) c.requires.in_words }
-
-pub write_number-requires-2 : goal.write_number-requires-2
-write_number-requires-2 c = tt
+    let first = as_long _ c.write_number.ensures (length-take-le 2 c.args.buffer.now (omega arith)) in
+    record {
+      part_len = after_front c.write_number.new.part c.args.buffer.now 2 128 (ap length first ∙ digits_length 2 _) (omega arith);
+      in_words = subst InWords (sym c.coefficients.ensures) c.requires.in_words;
+    }
 
 pub returns : goal.returns
 returns c =
-    let exponent_digits : c.write_number.new.part ≡ digits 2 c.args.m.exponent = c.write_number.ensures
-    ∙ ap (λ (k : ℕ). digits k c.args.m.exponent) (length-take-le 2 c.args.buffer.now (omega arith)) in
     let m = c.args.m in
     let buffer = c.args.buffer.now in
-    let first = c.write_number.new.part in
-    let second = c.write_words.new.part in
-    let e = exponent_digits in
+    let room = c.requires.frame_length_in_bounds in
+    let e = as_long _ c.write_number.ensures (length-take-le 2 buffer (omega arith)) in
     let f = c.write_words.ensures ∙ ap (λ (list : List ℤ). words_text (words list)) c.coefficients.ensures in
-    three_parts m buffer first second c.requires.frame_length_in_bounds e f c.write_number-2.new.part
-    (c.write_number-2.ensures ∙ ap₂ digits (eight m buffer first second c.requires.frame_length_in_bounds e f) c.check_word.ensures)
+    three_parts m buffer c.write_number.new.part c.write_words.new.part room e f c.write_number-2.new.part
+    (c.write_number-2.ensures ∙ ap₂ digits (eight m buffer c.write_number.new.part c.write_words.new.part room e f) c.check_word.ensures)

@@ -1,6 +1,6 @@
 -- `frame::write_words` meets its contract. The loop's invariant: the first `i` words are written. The measure is what is
 -- left of sixteen. Assumes nothing.
-use Rattle.std.proofs.Common.{◌≡◌, ℕ, ◌+◌, ◌-◌, ◌*◌, ◌≤◌, List, length, get_or, take, ℤ, pos, sym, refl, ap, ◌∙◌, subst, ap₂, arith, take_all, rules}
+use Rattle.std.proofs.Common.{◌≡◌, ℕ, ◌+◌, ◌-◌, ◌*◌, List, length, ℤ, pos, sym, refl, ap, ◌∙◌, subst, ap₂, arith, take_all, rules}
 use borrow.Rule.Slice.PartMut.{same_len_mid}
 use Rattle.lists.proofs.List.{every_member}
 use Rattle.frame.specs.Digit.{digits}
@@ -18,9 +18,6 @@ word-requires c =
     let sixteen : length c.args.list ≡ 16 = search rules in
     let f = every_member (pos 0) c.requires.in_words c.loop-i.i (omega arith) in
     subst InWord (sym (in_word_stored f)) f
-
-pub write_number-requires : goal.write_number-requires
-write_number-requires c = tt
 
 eight : (i : ℕ) → 8 * i + 8 - 8 * i ≡ 8
 eight i = omega arith
