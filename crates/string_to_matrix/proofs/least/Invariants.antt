@@ -1,12 +1,7 @@
 -- `string_to_matrix::least` meets its contract. The loop's invariant: the record means the same, and its exponent has not grown, so
 -- there is room to divide. The measure is the exponent. Assumes nothing.
 use Prim.Native.Nat.{◌≤◌}
-use native.Mathlib.Omega.{arith}
-use mathlib.Core.Path.{subst}
 use Rattle.matrix.specs.Matrix.{Same}
-use Rattle.matrix.proofs.Same.{same_refl, same_trans}
-use Rattle.string_to_matrix.specs.Room.{Reduces}
-use Rattle.string_to_matrix.proofs.Reduced.{roomy_lower}
 use Rattle.string_to_matrix.proofs.least.Given as goal
 
 abbrev pub invariant-loop-r : goal.invariant-loop-r

@@ -1,5 +1,4 @@
 -- `string_to_matrix::lowered` meets its contract: a roomy record leaves room to divide by √2. Assumes nothing.
-use borrow.Author.Rules.{rules}
 use Rattle.string_to_matrix.proofs.Small.{roomy_is_small}
 use Rattle.string_to_matrix.proofs.Reduced.{lowered_by}
 use Rattle.string_to_matrix.proofs.lowered.Goals as goal

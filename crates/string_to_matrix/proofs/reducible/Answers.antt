@@ -1,7 +1,6 @@
 -- `string_to_matrix::reducible` meets its contract: an exponent of 0 is least, and so is a record with an element that √2 does not
 -- divide. Assumes nothing.
 use native.Mathlib.Omega.{arith}
-use borrow.Author.Rules.{rules}
 use Rattle.matrix.proofs.Least.{least_at_zero, least_undivided}
 use Rattle.string_to_matrix.proofs.Reduced.{pairs_where_told, reduces_by_last}
 use Rattle.string_to_matrix.proofs.reducible.Goals as goal
