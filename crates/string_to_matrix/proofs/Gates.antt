@@ -4,14 +4,15 @@ use Prim.Native.Nat.{ℕ}
 use native.Mathlib.Nat.{add_comm, zero-add}
 use mathlib.Core.List.{[], ◌∷◌}
 use mathlib.Core.Path.{◌≡◌, refl, sym, ◌∙◌}
+use mathlib.Core.Logic.{◌≢◌}
 use lib.IntN.{pos}
 use Rattle.algebra.proofs.Solver.{var, con, ◌⊕◌, ◌⊗◌, ⊖◌, solve}
 use Rattle.ring.specs.declared.Element.{Element}
-use Rattle.ring.specs.Element.{nothing, one, sum, negation, product}
+use Rattle.ring.specs.Element.{element, nothing, one, omega as ω, omega2, sum, negation, product}
 use Rattle.ring.proofs.Ring.{elements}
 use Rattle.matrix.specs.declared.Matrix.{Matrix}
 use Rattle.matrix.specs.Matrix.{matrix, times}
-use Rattle.matrix.specs.Letter.{H, S, T, W, X, gate_H, gate_X}
+use Rattle.matrix.specs.Letter.{H, S, T, W, X, gate, gate_H, gate_S, gate_T, gate_W, gate_X}
 use Rattle.matrix.proofs.Entries.{equal_entries}
 use Rattle.form.specs.Form.{FormLetter, letter_H, letter_S, letter_T, letter_W, letter_X}
 use Rattle.complete.specs.Descent.{record_without_H, record_without_X}
@@ -59,9 +60,36 @@ diagonal_times u w m ep eq er es =
     (er ∙ sym (lower w m.top.left m.bottom.left)) (es ∙ sym (lower w m.top.right m.bottom.right))
 
 -- the letter of a form that is none of the others is X
-pub last_letter : {b : ℕ} → FormLetter b → (((Unit {0} × (b ≡ H → ⊥)) × (b ≡ S → ⊥)) × (b ≡ T → ⊥)) × (b ≡ W → ⊥) → b ≡ X
-last_letter letter_H others = absurd (others.0.0.0.1 refl)
-last_letter letter_S others = absurd (others.0.0.1 refl)
-last_letter letter_T others = absurd (others.0.1 refl)
-last_letter letter_W others = absurd (others.1 refl)
-last_letter letter_X others = refl
+pub last_letter : {b : ℕ} → FormLetter b → b ≢ H → b ≢ S → b ≢ T → b ≢ W → b ≡ X
+last_letter letter_H not_H not_S not_T not_W = absurd (not_H refl)
+last_letter letter_S not_H not_S not_T not_W = absurd (not_S refl)
+last_letter letter_T not_H not_S not_T not_W = absurd (not_T refl)
+last_letter letter_W not_H not_S not_T not_W = absurd (not_W refl)
+last_letter letter_X not_H not_S not_T not_W = refl
+
+-- so each letter of a form has its product, as its branch computes it
+pub prefixed_H : {b : ℕ} (m : Matrix) {r : Matrix} → b ≡ H → r ≡ record_without_H m → r ≡ times (gate b) m
+unfolding gate
+prefixed_H m is e = rw is (e ∙ H_times m)
+
+pub prefixed_S : {b : ℕ} (m : Matrix) {r : Matrix} → b ≡ S →
+    r ≡ times (matrix 0 (element (pos 1) (pos 0) (pos 0) (pos 0)) nothing nothing (element (pos 0) (pos 0) (pos 1) (pos 0))) m →
+    r ≡ times (gate b) m
+unfolding gate gate_S one omega2
+prefixed_S m is e = rw is e
+
+pub prefixed_T : {b : ℕ} (m : Matrix) {r : Matrix} → b ≡ T →
+    r ≡ times (matrix 0 (element (pos 1) (pos 0) (pos 0) (pos 0)) nothing nothing (element (pos 0) (pos 1) (pos 0) (pos 0))) m →
+    r ≡ times (gate b) m
+unfolding gate gate_T one ω
+prefixed_T m is e = rw is e
+
+pub prefixed_W : {b : ℕ} (m : Matrix) {r : Matrix} → b ≡ W →
+    r ≡ times (matrix 0 (element (pos 0) (pos 1) (pos 0) (pos 0)) nothing nothing (element (pos 0) (pos 1) (pos 0) (pos 0))) m →
+    r ≡ times (gate b) m
+unfolding gate gate_W ω
+prefixed_W m is e = rw is e
+
+pub prefixed_X : {b : ℕ} (m : Matrix) {r : Matrix} → FormLetter b → b ≢ H → b ≢ S → b ≢ T → b ≢ W → r ≡ record_without_X m → r ≡ times (gate b) m
+unfolding gate
+prefixed_X m letter not_H not_S not_T not_W e = rw (last_letter letter not_H not_S not_T not_W) (e ∙ X_times m)

@@ -3,6 +3,7 @@
 use Prim.Native.Nat.{ℕ, ◌+◌, ◌*◌, ◌≤◌, ◌<◌}
 use native.Mathlib.Omega.{arith}
 use mathlib.Core.List.{List}
+use mathlib.Core.Path.{◌≡◌, subst}
 use Rattle.matrix.specs.declared.Matrix.{Matrix}
 use Rattle.matrix.specs.Matrix.{LeastRecord}
 use Rattle.matrix.specs.Letter.{Letters, matrix_of}
@@ -13,7 +14,8 @@ use Rattle.form.specs.Form.{Form, FormOf}
 use Rattle.form.specs.Count.{t_count}
 use Rattle.form.proofs.Spelled.{form_is_letters}
 use Rattle.answer.specs.declared.Refusal.TheVariants.{HighLeastExponent}
-use Rattle.answer.specs.Refusal.{Said, refusal}
+use Rattle.answer.specs.Refusal.{Said, accepted as answered, refusal}
+use Rattle.answer.specs.Limits.{exponent_limit}
 use Rattle.alphabet.specs.String.{AcceptedString}
 use Rattle.alphabet.proofs.String.{string_refused_or_accepted}
 use Rattle.extend_form.proofs.Exists.{form_length}
@@ -46,3 +48,12 @@ as_its_form accepted form short (high_least_exponent s l h) =
     high_least_exponent accepted (record { same = same_trans (same_sym form.same) l.same; least = l.least }) h
 as_its_form accepted form short (least_record s l h) =
     least_record accepted (record { same = same_trans (same_sym form.same) l.same; least = l.least }) h
+
+-- the least record of a form with few T's: answered, or refused where its exponent is high
+pub form_refused : {f : List ℕ} {product least : Matrix} → Form f → t_count f ≤ t_limit → product ≡ matrix_of f →
+    LeastRecord product least → exponent_limit < least.exponent → StringToMatrix f (refusal HighLeastExponent)
+form_refused {least = least} form few e l high = high_least_exponent (short_form form few) (subst (λ (m : Matrix). LeastRecord m least) e l) high
+
+pub form_answered : {f : List ℕ} {product least : Matrix} → Form f → t_count f ≤ t_limit → product ≡ matrix_of f →
+    LeastRecord product least → least.exponent ≤ exponent_limit → StringToMatrix f (answered least)
+form_answered {least = least} form few e l low = least_record (short_form form few) (subst (λ (m : Matrix). LeastRecord m least) e l) low

@@ -61,6 +61,7 @@ fn by_diagonal(u: Element, w: Element, m: Matrix) -> Matrix
 }
 
 // A letter of a form, its matrix times a record. H and X are their own inverses: they come on as they are taken off.
+#[tactic(auto, using(crate::proofs::Gates::prefixed_H, crate::proofs::Gates::prefixed_S, crate::proofs::Gates::prefixed_T, crate::proofs::Gates::prefixed_W, crate::proofs::Gates::prefixed_X))]
 fn prefixed(letter: u8, m: Matrix) -> Matrix
     requires form_letter { FormLetter letter }
     requires roomy { Roomy m }
@@ -149,6 +150,7 @@ fn least(m: Matrix) -> Matrix
 }
 
 // A form with few T's, multiplied out and reduced.
+#[tactic(auto, using(crate::proofs::High::form_refused, crate::proofs::High::form_answered))]
 fn of_form(form: &[u8]) -> Returned
     requires form { Form form.now }
     requires form_bound { t_count form.now ≤ t_limit }
@@ -168,6 +170,7 @@ fn room() -> [u8; FORM_LIMIT] {
 }
 
 // String to matrix. A form with many T's has a least exponent above the limit, which is known without its matrix.
+#[tactic(auto, using(crate::proofs::Squeezed::refused_too, crate::proofs::Squeezed::formed_many, crate::proofs::Squeezed::formed_answer))]
 pub fn string_to_matrix(text: &[u8]) -> Returned
     ensures { StringToMatrix text.now (said result) }
 {
