@@ -1,5 +1,5 @@
 -- Document 01, "Limits" and "Refusals": which matrix records are accepted, and the refusals 4, 5, 6 in their order.
-use Rattle.std.specs.Prelude.{ℕ, ◌<◌, ◌≤◌, List, [], ◌∷◌, Bool, ◌&&◌, ℤ, pos, neg_ℤ}
+use Rattle.std.specs.Prelude.{ℕ, ◌<◌, ◌≤◌, List, Bool, ◌&&◌, ℤ, pos, neg_ℤ}
 use Rattle.std.specs.Int.Signed.{le_z}
 use Rattle.lists.specs.List.{AllPass, FirstFailing}
 use Rattle.matrix.specs.declared.Matrix.{Matrix}

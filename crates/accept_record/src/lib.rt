@@ -110,6 +110,7 @@ fn is_unitary(m: Matrix) -> bool
 }
 
 // The limits in their order, and then the test for unitary.
+#[tactic(auto, using(crate::specs::Accept::high_exponent), unfolding(crate::specs::Accept::Judged))]
 pub fn judge(m: Matrix) -> Judgement
     ensures { Judged m result }
 {

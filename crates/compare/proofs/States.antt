@@ -1,12 +1,12 @@
 -- Two states as they are compared: the forms that they spell are apart by ω^j exactly when their codes agree and the first tail is the second with j W's more. Assumes nothing.
-use Prim.Native.Nat.{ℕ, ◌+◌, ◌≤◌}
+use Prim.Native.Nat.{ℕ, ◌+◌, ◌/◌, ◌%◌, ◌≤◌}
 use mathlib.Core.List.{List, ◌++◌}
 use mathlib.Core.Path.{◌≡◌, sym, ap, ap₂, subst, ◌∙◌}
 use lib.ListN.{length}
 use Rattle.matrix.specs.Matrix.{Same}
 use Rattle.matrix.specs.Letter.{matrix_of}
 use Rattle.matrix.proofs.Same.{same_of_equal}
-use Rattle.form.specs.Tail.{tail_text}
+use Rattle.form.specs.Tail.{tail_a, tail_text}
 use Rattle.form.proofs.Count.{t_count_tail}
 use Rattle.form.proofs.Grammar.{tails_distinct}
 use Rattle.stack.specs.declared.State.{State}
@@ -16,7 +16,7 @@ use Rattle.stack.proofs.Used.{length_used}
 use Rattle.stack.proofs.Known.{codes_known}
 use Rattle.unique.proofs.Unique.{forms_are_unique}
 use Rattle.compare.specs.Promise.{same, phase, different, PhaseApart, Related, equal, apart, unlike}
-use Rattle.compare.proofs.Phase.{with_Ws, with_Ws_in_tails, phased_text}
+use Rattle.compare.proofs.Phase.{with_Ws, with_Ws_known, with_Ws_in_tails, phased_text}
 use Rattle.compare.proofs.Related.{equal_by_none}
 
 -- the codes agree, and the first tail is the second with j W's more
@@ -56,6 +56,23 @@ module _ (stack stack' : List ℕ) (state state' : State) where
 
   pub apart_states : (j : ℕ) → 1 ≤ j → j ≤ 7 → Agree stack state stack' state' j → Related (state_text stack state) (state_text stack' state') (phase j)
   apart_states j low high agree = apart low high (apart_when_agree j agree)
+
+  -- what the tests of the codes and of the tails find
+  agree_by_tests : (j : ℕ) → state.count ≡ state'.count → used stack state.count ≡ used stack' state.count →
+      state.tail / 8 ≡ state'.tail / 8 → (tail_a state'.tail + j) % 8 ≡ tail_a state.tail → Agree stack state stack' state' j
+  agree_by_tests j counts codes before Ws =
+      record { codes = codes ∙ ap (used stack') counts; tail = with_Ws_known state.tail state'.tail j before Ws }
+
+  pub equal_by_tests : (j : ℕ) → state.count ≡ state'.count → used stack state.count ≡ used stack' state.count →
+      state.tail / 8 ≡ state'.tail / 8 → (tail_a state'.tail + j) % 8 ≡ tail_a state.tail → j ≡ 0 →
+      Related (state_text stack state) (state_text stack' state') same
+  equal_by_tests j counts codes before Ws none =
+      equal_states (subst (Agree stack state stack' state') none (agree_by_tests j counts codes before Ws))
+
+  pub apart_by_tests : (j : ℕ) → state.count ≡ state'.count → used stack state.count ≡ used stack' state.count →
+      state.tail / 8 ≡ state'.tail / 8 → (tail_a state'.tail + j) % 8 ≡ tail_a state.tail → 1 ≤ j → j ≤ 7 →
+      Related (state_text stack state) (state_text stack' state') (phase j)
+  apart_by_tests j counts codes before Ws low high = apart_states j low high (agree_by_tests j counts codes before Ws)
 
   pub unlike_states : WellFormed stack state → WellFormed stack' state' → ((j : ℕ) → Agree stack state stack' state' j → ⊥) →
       Related (state_text stack state) (state_text stack' state') different

@@ -59,6 +59,7 @@ fn between(from: u8, to: u8) -> usize
 }
 
 // Two forms, as stacks and states spell them: a phase changes nothing but the last three bits of the tail.
+#[tactic(auto, using(crate::proofs::States::equal_by_tests, crate::proofs::States::apart_by_tests))]
 fn relation(first: &[u8; STRING_LIMIT], a: State, second: &[u8; STRING_LIMIT], b: State) -> Compared
     requires well_formed { WellFormed first.now a }
     requires well_formed_2 { WellFormed second.now b }

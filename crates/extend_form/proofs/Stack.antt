@@ -1,24 +1,22 @@
 -- Codes in an array: a code stored just past those in use is the last one then, and the codes below it stay; and what the
 -- step does to the array and the state extends the form that they spell. Assumes nothing.
-use Prim.Native.Nat.{ℕ, zero, suc, ◌+◌, ◌*◌, ◌-◌, ◌≤◌, ◌<◌}
-use native.Mathlib.Numerals.{add-one, sub-one}
-use native.Mathlib.Nat.{lt_irrefl, eq-or-lt_of_le, le_of_suc-le-suc}
+use Prim.Native.Nat.{ℕ, ◌+◌, ◌*◌, ◌-◌, ◌≤◌, ◌<◌}
+use native.Mathlib.Numerals.{add-one}
 use native.Mathlib.Omega.{arith}
-use mathlib.Core.List.{List, [], ◌∷◌, head-eq_of_cons-eq, tail-eq_of_cons-eq}
-use mathlib.Core.Logic.{⊎_elim}
-use mathlib.Core.Path.{◌≡◌, refl, sym, ap, ap₂, subst, ◌∙◌}
+use mathlib.Core.List.{List, [], ◌∷◌}
+use mathlib.Core.Path.{◌≡◌, subst}
 use lib.Dec.{lit<}
 use lib.ListN.{length, take, get_or, set, length-take, length-set}
-use lib.Seq.{take-suc, get_or-set_same, get_or-set_other}
+use lib.Seq.{take-suc}
 use Rattle.matrix.specs.Letter.{T}
 use Rattle.form.specs.Tail.{tail_h, head_text, tail_text}
 use Rattle.form.proofs.Count.{t_count_append, t_count_within}
 use Rattle.tail.specs.Product.{Product, PastT, BetweenT}
 use Rattle.stack.specs.declared.State.{State}
-use Rattle.stack.specs.State.{Codes, no_codes, codes_text, used, state_text, WellFormed}
+use Rattle.stack.specs.State.{Codes, no_codes, front, codes_text, used, state_text, WellFormed}
 use Rattle.extend_form.specs.Extend.{Fresh, Extended}
 use Rattle.extend_form.proofs.Step.{tail_multiplied, code_pushed, code_popped, extends_more}
-use Rattle.stack.proofs.Used.{t_count_state, last_code, used_pushed, used_last}
+use Rattle.stack.proofs.Used.{t_count_state, syllable_above, last_code, used_pushed, used_last}
 
 -- the codes grow by no more than the letters
 pub count_within :
@@ -111,3 +109,13 @@ module _ (stack : List ℕ) (state : State) (s : WellFormed stack state) where
         well_formed = record { within = omega arith; codes = good.1; in_tails = omega arith };
         extends = rw last (code_popped (used stack (state.count - 1)) (get_or stack (state.count - 1) 0) state.tail m between);
       }
+
+-- a T may be pushed where the tail has a head
+pub head_pushed : {stack : List ℕ} {state : State} → WellFormed stack state → 64 ≤ state.tail → Codes (tail_h state.tail ∷ used stack state.count)
+head_pushed {state = state} good head =
+    let in_tails = good.in_tails in syllable_above (tail_h state.tail) (omega arith) (omega arith) good.codes
+
+-- and where nothing is on the stack and the tail has none
+pub first_pushed : (stack : List ℕ) {state : State} → state.tail < 64 → state.count ≡ 0 → Codes (tail_h state.tail ∷ used stack state.count)
+unfolding used
+first_pushed stack {state} headless empty = let none : tail_h state.tail ≡ 0 = omega arith in rw (none, empty) front

@@ -55,6 +55,7 @@ fn join(stack: &[u8], state: State) -> State
     }
 }
 
+#[tactic(auto, using(crate::proofs::Stack::head_pushed, crate::proofs::Stack::first_pushed))]
 fn by_t(stack: &mut [u8], state: State) -> State
     requires well_formed { WellFormed stack.old state }
     requires count_in_bounds { state.count < length stack.old }

@@ -39,13 +39,18 @@ written_spells m a = record {
   digits = refl;
 }
 
--- an accepted record, written and read again: the same record
-pub record_round_trip :
-    {before after : List ℕ} {m : Matrix} {said : Said Matrix} → MatrixToFrame m before (accepted tt) after →
+read_again :
+    {m : Matrix} {before after : List ℕ} {said : Said Matrix} → MatrixToFrame m before (accepted tt) after →
     FrameToMatrix (take frame_length after) said → said ≡ accepted m
-record_round_trip {before = before} {m = m} (framed a room) r =
+read_again {m = m} {before = before} (framed a room) r =
     frame_to_matrix_said_once r
     (accepted_frame (record {
       spells = subst (λ (s : List ℕ). Spells s m (check_word m)) (sym (front m before)) (written_spells m a);
       record_accepted = a;
     }))
+
+-- an accepted record, written and read again: the same record
+pub record_round_trip :
+    {before after : List ℕ} {m : Matrix} {said : Said Matrix} → MatrixToFrame m before (accepted tt) after →
+    FrameToMatrix (take frame_length after) said → said ≡ accepted m
+record_round_trip w r = read_again w r

@@ -24,6 +24,7 @@ pub fn empty_stack() -> [u8; STRING_LIMIT]
 }
 
 // One pass over the letters, up to a byte that is none.
+#[tactic(auto, using(alphabet::specs::String::too_long))]
 pub fn normalise(products: &[u8; 1152], stack: &mut [u8], text: &[u8]) -> Normalised
     requires product_table { ProductTable products.now }
     requires string_limit_in_bounds { string_limit ≤ length stack.old }

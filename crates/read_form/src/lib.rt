@@ -58,6 +58,7 @@ fn run_length(text: &[u8], letter: u8, most: usize) -> usize
 }
 
 // The length of a tail's head: nothing, H or SH.
+#[tactic(auto, using(crate::proofs::Beginning::head_SH, crate::proofs::Beginning::head_H, crate::proofs::Beginning::head_none))]
 fn head_length(text: &[u8]) -> usize
     ensures { Head text.now result }
 {
@@ -71,6 +72,7 @@ fn head_length(text: &[u8]) -> usize
 }
 
 // The length of the syllable that a text begins with, or 0.
+#[tactic(auto, using(crate::proofs::Beginning::leading_HT, crate::proofs::Beginning::leading_SHT, crate::proofs::Beginning::leading_none))]
 fn syllable_length(text: &[u8]) -> usize
     ensures { LeadingSyllable text.now result }
 {
@@ -84,6 +86,7 @@ fn syllable_length(text: &[u8]) -> usize
 }
 
 // The longest tail that a text begins with.
+#[tactic(auto, using(crate::proofs::Taking::to_the_end, crate::proofs::Tails::longest_tail))]
 fn longest_tail(text: &[u8]) -> Reading
     ensures { Longest OnlyTail text.now result }
 {
@@ -136,6 +139,7 @@ fn longest_form(text: &[u8]) -> Reading
 }
 
 // Reads a text claimed to be a form: refused 2, 1 or 7, in this order, or answered with its figures and tail number.
+#[tactic(auto, using(crate::specs::Promise::too_long, crate::specs::Promise::bad_letter, crate::proofs::Answer::whole_text_is_form, crate::proofs::Answer::shorter_is_refused))]
 pub fn read_form(text: &[u8]) -> Read
     ensures { ReadForm text.now (said result) }
 {

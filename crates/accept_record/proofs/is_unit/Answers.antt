@@ -1,20 +1,17 @@
 -- `accept_record::is_unit` meets its contract: a column times its own conjugate has the sums of the squared sizes for its first two
 -- coefficients, which fit, so that equal bits are equal numbers. Assumes nothing.
-use mathlib.Core.Path.{◌≡◌, sym, ◌∙◌, ap, subst}
+use mathlib.Core.Path.{sym, ◌∙◌, ap, subst}
 use mathlib.Core.Bool.{false≢true}
 use Prim.Native.Nat.{◌^◌}
 use borrow.Author.Tests.{eqb-true, eq-eqb}
 use lib.Dec.{lit<}
-use lib.IntN.{pos, ◌+ℤ◌, neg_ℤ}
 use mir.Syntax.{w64}
 use mir.Val.{of_z}
 use mir.Facts.{sfits_lit}
 use Rattle.ring.specs.declared.Element.{Element}
-use Rattle.ring.specs.Element.{element, size_whole, size_root2}
 use Rattle.ring.specs.Bounds.{Small}
 use Rattle.ring.proofs.Bounds.{bounded_fits, same_bits}
 use Rattle.matrix.proofs.Unitary.{column_sizes}
-use Rattle.matrix.specs.Matrix.{column_product}
 use Rattle.accept_record.proofs.Sizes.{small_column_product}
 use Rattle.accept_record.proofs.is_unit.Goals as goal
 
@@ -23,21 +20,17 @@ column_product-size-requires c = record { small = c.requires.small; small_2 = c.
 
 pub returns-then-size-power : goal.returns-then-size-power
 returns-then-size-power c =
-    let sizes : let top = c.args.top in let bottom = c.args.bottom in
-    c.column_product-size.result
-    ≡ element (size_whole top +ℤ size_whole bottom) (size_root2 top +ℤ size_root2 bottom) (pos 0) (neg_ℤ (size_root2 top +ℤ size_root2 bottom)) = c.column_product-size.ensures ∙ column_sizes c.args.top c.args.bottom in
-    (
-  λ e. absurd (false≢true e),
-  λ u. absurd (c.if-size-power.true (ap (of_z w64) (ap (λ (x : Element). x.a0) sizes ∙ u.whole))),
-)
+    let sizes = c.column_product-size.ensures ∙ column_sizes c.args.top c.args.bottom in (
+      λ e. absurd (false≢true e),
+      λ u. absurd (c.if-size-power.true (ap (of_z w64) (ap (λ (x : Element). x.a0) sizes ∙ u.whole))),
+    )
 
 pub returns : goal.returns
 returns c =
-    let sizes : let top = c.args.top in let bottom = c.args.bottom in
-    c.column_product-size.result
-    ≡ element (size_whole top +ℤ size_whole bottom) (size_root2 top +ℤ size_root2 bottom) (pos 0) (neg_ℤ (size_root2 top +ℤ size_root2 bottom)) = c.column_product-size.ensures ∙ column_sizes c.args.top c.args.bottom in
-    let small : Small (2 ^ 61) c.column_product-size.result = subst (Small (2 ^ 61)) (sym c.column_product-size.ensures) (small_column_product c.requires.small c.requires.small_2 c.requires.small c.requires.small_2) in
-    (
+    let pre = c.requires in
+    let sizes = c.column_product-size.ensures ∙ column_sizes c.args.top c.args.bottom in
+    let small =
+    subst (Small (2 ^ 61)) (sym c.column_product-size.ensures) (small_column_product pre.small pre.small_2 pre.small pre.small_2) in (
       λ e.
           record {
             whole = sym (ap (λ (x : Element). x.a0) sizes) ∙ same_bits (bounded_fits small.a0 (lit< tt)) c.ranges.power c.if-size-power.false;

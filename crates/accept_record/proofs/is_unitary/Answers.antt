@@ -5,8 +5,6 @@ use mathlib.Core.Bool.{Bool, true, false, false≢true, true≢false}
 use mathlib.Core.Logic.{◌↔◌}
 use Prim.Native.Nat.{ℕ, ◌^◌, ◌≤◌}
 use native.Mathlib.Nat.{le_trans}
-use borrow.Author.Rules.{rules}
-use borrow.Author.Tests.{not-true, not-false}
 use lib.Dec.{lit≤}
 use lib.IntN.{ℤ, pos}
 use lib.Pow.{pow_mono}
@@ -14,7 +12,7 @@ use Rattle.ring.specs.declared.Element.{Element}
 use Rattle.ring.specs.Element.{sum, product, conjugate}
 use Rattle.ring.proofs.Bounds.{stored, kept}
 use Rattle.matrix.specs.declared.Matrix.{Matrix}
-use Rattle.matrix.specs.Matrix.{Unitary, column_product}
+use Rattle.matrix.specs.Matrix.{Unitary}
 use Rattle.answer.specs.Limits.{exponent_limit}
 use Rattle.accept_record.specs.Column.{UnitColumn}
 use Rattle.accept_record.proofs.Sizes.{small_entries}

@@ -1,5 +1,4 @@
 -- `extend_form::by_letter` meets its contract: T has a function of its own, and any other letter multiplies the tail. Assumes nothing.
-use borrow.Author.Rules.{rules}
 use Rattle.extend_form.proofs.Stack.{multiplied}
 use Rattle.extend_form.proofs.by_letter.Goals as goal
 

@@ -1,17 +1,12 @@
 -- `extend_form::by_text` meets its contract. The loop's invariant: the bytes before `i` are letters, and the form is extended
 -- by them; the codes are no more than they, so the stack has room. The measure is what is left of the text.
 -- Assumes nothing.
-use Prim.Native.Nat.{◌≤◌, ◌-◌}
 use native.Mathlib.Numerals.{add-one}
-use mathlib.Core.Path.{◌≡◌, refl, sym, ◌∙◌}
+use mathlib.Core.Path.{refl, sym, ◌∙◌}
 use borrow.Author.Rules.{rules}
-use borrow.Author.Tests.{not-true, not-false}
-use lib.ListN.{length, take}
 use lib.Seq.{take_all}
 use Rattle.lists.specs.List.{none}
 use Rattle.lists.proofs.List.{every_grows, fails_after}
-use Rattle.matrix.specs.Letter.{Letters}
-use Rattle.extend_form.specs.Extend.{Extended}
 use Rattle.extend_form.proofs.Step.{extends_none}
 use Rattle.extend_form.proofs.Stack.{room_left, taken_more}
 use Rattle.extend_form.proofs.by_text.Goals as goal

@@ -2,7 +2,6 @@
 use Prim.Native.Nat.{◌-◌, ◌<◌}
 use native.Mathlib.Omega.{arith}
 use lib.ListN.{get_or}
-use borrow.Author.Rules.{rules}
 use Rattle.extend_form.proofs.Stack.{last_of, joined}
 use Rattle.extend_form.proofs.join.Goals as goal
 

@@ -2,14 +2,11 @@
 use borrow.Author.Rules.{rules}
 use native.Mathlib.Omega.{arith}
 use mathlib.Core.Path.{subst}
-use Rattle.alphabet.specs.String.{too_long, bad_letter}
+use Rattle.alphabet.specs.String.{bad_letter}
 use Rattle.extend_form.specs.Extend.{ExtendsByText}
 use Rattle.extend_form.proofs.Stack.{fresh_well_formed, count_within}
 use Rattle.normalise.proofs.Held.{form_taken}
 use Rattle.normalise.proofs.normalise.Goals as goal
-
-pub returns-then-text-gt-STRING_LIMIT : goal.returns-then-text-gt-STRING_LIMIT
-returns-then-text-gt-STRING_LIMIT c = too_long c.if-text-gt-STRING_LIMIT.true
 
 pub by_text-taken-requires : goal.by_text-taken-requires
 by_text-taken-requires c = record { product_table = search rules; well_formed = fresh_well_formed _ c.fresh.ensures; text_in_bounds = omega (arith, c.fresh.ensures.no_codes) }

@@ -2,21 +2,18 @@
 use Rattle.std.proofs.Common.{◌≤◌, [], ◌∷◌, length, arith}
 use Rattle.matrix.specs.Letter.{T}
 use Rattle.read_form.specs.Part.{NoFront}
-use Rattle.read_form.proofs.Taking.{to_the_end}
-use Rattle.read_form.proofs.Beginning.{does_begin, does_not_begin, begins_inside}
+use Rattle.read_form.proofs.Taking.{to_the_end, front_within}
 use Rattle.read_form.proofs.Rests.{rest_fits, longest_after_front, longest_without_front}
 use Rattle.read_form.proofs.longest_form.Goals as goal
 
 pub overflow_add-result-then-begins : goal.overflow_add-result-then-begins
 overflow_add-result-then-begins c =
-    let inside : 1 ≤ length c.args.text.now = begins_inside c.args.text.now (T ∷ []) c.begins.ensures c.if-begins.true in
+    let inside : 1 ≤ length c.args.text.now = front_within c.args.text.now (T ∷ []) c.if-begins.ensures in
     record { fits = omega (arith, (rest_fits NoFront c.args.text.now 1 _ (omega arith) inside c.longest_rest-rest.ensures).1) }
 
 pub returns-then-begins : goal.returns-then-begins
 returns-then-begins c =
-    longest_after_front _ _ (does_begin _ (T ∷ []) c.begins.ensures c.if-begins.true)
-    (rw to_the_end at c.longest_rest-rest.ensures)
+    longest_after_front _ _ c.if-begins.ensures (rw to_the_end at c.longest_rest-rest.ensures)
 
 pub returns-else-begins : goal.returns-else-begins
-returns-else-begins c =
-    longest_without_front _ _ (does_not_begin _ (T ∷ []) c.begins.ensures c.if-begins.false) c.longest_rest.ensures
+returns-else-begins c = longest_without_front _ _ c.if-begins.ensures c.longest_rest.ensures
