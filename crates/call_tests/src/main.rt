@@ -11,6 +11,7 @@ use compare::{Compared, Which};
 use frame::Stored;
 use lines::{Next, Progress};
 use matrix::{Matrix, Row};
+use memchr::memchr;
 use read_form::{Read, Reading};
 use ring::Element;
 
@@ -202,11 +203,12 @@ struct Word {
 fn first_word(text: &[u8]) -> Word
     ensures { (result.end ≤ length text.now) × (result.next ≤ length text.now) }
 {
-    let end = bytes::scan::find(text, 0, text.len(), b' ');
-    if end < text.len() {
-        Word { end, next: end + 1 }
-    } else {
-        Word { end, next: end }
+    match memchr(b' ', text) {
+        Some(end) => Word { end, next: end + 1 },
+        None => Word {
+            end: text.len(),
+            next: text.len(),
+        },
     }
 }
 
@@ -221,13 +223,13 @@ enum Call {
 }
 
 fn call_of(name: &[u8]) -> Call {
-    if check::same(name, b"read") {
+    if name == b"read" {
         Call::Read
-    } else if check::same(name, b"compare") {
+    } else if name == b"compare" {
         Call::Compare
-    } else if check::same(name, b"matrix") {
+    } else if name == b"matrix" {
         Call::Matrix
-    } else if check::same(name, b"frame") {
+    } else if name == b"frame" {
         Call::Frame
     } else {
         Call::Other
@@ -259,7 +261,14 @@ fn answer(line: &[u8], output: &mut [u8], at: usize) -> usize
 }
 
 // The number of turns is one that no input uses up.
-fn run(input: &mut [u8], line: &mut [u8], output: &mut [u8])
+#[tactic(auto, using(lines::proofs::Block::put_within), unfolding(lines::specs::Progress::Ready))]
+fn run<R: std::io::Read, W: std::io::Write>(
+    reader: &mut R,
+    writer: &mut W,
+    input: &mut [u8],
+    line: &mut [u8],
+    output: &mut [u8],
+)
     requires { room ≤ length output.old }
 {
     let mut progress = Progress::start();
@@ -269,7 +278,7 @@ fn run(input: &mut [u8], line: &mut [u8], output: &mut [u8])
         let Next::Line {
             length,
             progress: next,
-        } = lines::next_line(input, line, output, progress, ROOM)
+        } = lines::next_line(reader, writer, input, line, output, progress, ROOM)
         else {
             return;
         };
@@ -278,9 +287,15 @@ fn run(input: &mut [u8], line: &mut [u8], output: &mut [u8])
     }
 }
 
-fn main() {
+fn main(rt: HostRuntime) {
     let mut input = io::large_buffer();
     let mut line = line_buffer();
     let mut output = io::large_buffer();
-    run(&mut input, &mut line, &mut output);
+    run(
+        &mut rt.stdin(),
+        &mut rt.stdout(),
+        &mut input,
+        &mut line,
+        &mut output,
+    );
 }

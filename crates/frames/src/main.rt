@@ -8,6 +8,7 @@ ghost use Rattle.frames.specs.Frames.{Answered};
 
 use answer::FRAME_LENGTH;
 use lines::{Next, Progress};
+use std::io::{Read, Write};
 
 // One byte more than a frame has, so that a longer line is seen to be longer.
 fn line_buffer() -> [u8; FRAME_LENGTH + 1]
@@ -26,7 +27,15 @@ fn answer(line: &[u8], form: &mut [u8], output: &mut [u8], at: usize) -> usize
 }
 
 // The number of turns is one that no input uses up.
-fn run(input: &mut [u8], line: &mut [u8], form: &mut [u8], output: &mut [u8])
+#[tactic(auto, using(lines::proofs::Block::put_within), unfolding(lines::specs::Progress::Ready))]
+fn run<R: Read, W: Write>(
+    reader: &mut R,
+    writer: &mut W,
+    input: &mut [u8],
+    line: &mut [u8],
+    form: &mut [u8],
+    output: &mut [u8],
+)
     requires { line_room + length form.old ≤ length output.old }
 {
     let room = report::LINE_ROOM + form.len();
@@ -37,7 +46,7 @@ fn run(input: &mut [u8], line: &mut [u8], form: &mut [u8], output: &mut [u8])
         let Next::Line {
             length,
             progress: next,
-        } = lines::next_line(input, line, output, progress, room)
+        } = lines::next_line(reader, writer, input, line, output, progress, room)
         else {
             return;
         };
@@ -46,10 +55,17 @@ fn run(input: &mut [u8], line: &mut [u8], form: &mut [u8], output: &mut [u8])
     }
 }
 
-fn main() {
+fn main(rt: HostRuntime) {
     let mut input = io::large_buffer();
     let mut line = line_buffer();
     let mut form = report::form_buffer();
     let mut output = io::large_buffer();
-    run(&mut input, &mut line, &mut form, &mut output);
+    run(
+        &mut rt.stdin(),
+        &mut rt.stdout(),
+        &mut input,
+        &mut line,
+        &mut form,
+        &mut output,
+    );
 }
