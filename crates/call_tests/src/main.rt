@@ -223,13 +223,13 @@ enum Call {
 }
 
 fn call_of(name: &[u8]) -> Call {
-    if name == b"read" {
+    if name == b"read".as_slice() {
         Call::Read
-    } else if name == b"compare" {
+    } else if name == b"compare".as_slice() {
         Call::Compare
-    } else if name == b"matrix" {
+    } else if name == b"matrix".as_slice() {
         Call::Matrix
-    } else if name == b"frame" {
+    } else if name == b"frame".as_slice() {
         Call::Frame
     } else {
         Call::Other
