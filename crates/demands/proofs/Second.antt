@@ -18,7 +18,7 @@ use Rattle.form.specs.Count.{t_count, h_count}
 use Rattle.form.proofs.Spelled.{form_is_letters}
 use Rattle.answer.specs.declared.Figures.{Figures}
 use Rattle.answer.specs.Refusal.{Said, accepted}
-use Rattle.answer.specs.Written.{no_room, room, figures_of}
+use Rattle.answer.specs.Written.{PutForm, no_room, room, figures_of}
 use Rattle.answer.proofs.Put.{Stands, put_stands}
 use Rattle.answer.specs.Limits.{exponent_limit}
 use Rattle.alphabet.specs.String.{AcceptedString}
@@ -57,11 +57,15 @@ case_formed a (of_form b f s p) = formed f (same_trans s (same_of_equal (accepte
 pub form_has_the_matrix : {i : Input} {m : Matrix} {before after : List ℕ} {x : Figures} → Accepted i m → Promised i before (accepted x) after → Formed m before x after
 form_has_the_matrix a p = case_formed a (promised_case p)
 
+-- where there is room for the form it is taken
+written_taken : {f before after : List ℕ} {answer : Said Figures} → length f ≤ length before → PutForm f before answer after → Taken answer
+written_taken enough (room h) = record { figures = figures_of _; taken = refl }
+written_taken enough (no_room h) = absurd (omega arith)
+
 case_taken : {i : Input} {m : Matrix} {before after : List ℕ} {answer : Said Figures} → Accepted i m → Room m before → Case i before answer after → Taken answer
 case_taken a enough (of_input r) = absurd (refused_or_accepted r a)
-case_taken a enough (of_form b f s (room h)) = record { figures = figures_of _; taken = refl }
-case_taken a enough (of_form {f = text} b f s (no_room h)) =
-    let fits = enough.enough text f (same_trans s (same_of_equal (accepted_once b a))) in absurd (omega arith)
+case_taken a enough (of_form {f = text} b f s p) =
+    written_taken (enough.enough text f (same_trans s (same_of_equal (accepted_once b a)))) p
 
 -- an accepted input with enough room gets its form
 pub accepted_is_taken : {i : Input} {m : Matrix} {before after : List ℕ} {answer : Said Figures} → Accepted i m → Room m before → Promised i before answer after → Taken answer

@@ -4,7 +4,7 @@ use Prim.Native.Nat.{ℕ}
 use native.Mathlib.Nat.{add_comm, zero-add}
 use mathlib.Core.List.{[], ◌∷◌}
 use mathlib.Core.Path.{◌≡◌, refl, sym, ◌∙◌}
-use mathlib.Core.Logic.{◌≢◌}
+use mathlib.Core.Logic.{◌⊎◌, inl, inr}
 use lib.IntN.{pos}
 use Rattle.algebra.proofs.Solver.{var, con, ◌⊕◌, ◌⊗◌, ⊖◌, solve}
 use Rattle.ring.specs.declared.Element.{Element}
@@ -59,15 +59,15 @@ diagonal_times u w m ep eq er es =
     (ep ∙ sym (upper u m.top.left m.bottom.left)) (eq ∙ sym (upper u m.top.right m.bottom.right))
     (er ∙ sym (lower w m.top.left m.bottom.left)) (es ∙ sym (lower w m.top.right m.bottom.right))
 
--- the letter of a form that is none of the others is X
-pub last_letter : {b : ℕ} → FormLetter b → b ≢ H → b ≢ S → b ≢ T → b ≢ W → b ≡ X
-last_letter letter_H not_H not_S not_T not_W = absurd (not_H refl)
-last_letter letter_S not_H not_S not_T not_W = absurd (not_S refl)
-last_letter letter_T not_H not_S not_T not_W = absurd (not_T refl)
-last_letter letter_W not_H not_S not_T not_W = absurd (not_W refl)
-last_letter letter_X not_H not_S not_T not_W = refl
+-- a letter of a form is one of five bytes
+pub five_letters : {b : ℕ} → FormLetter b → (b ≡ H) ⊎ ((b ≡ S) ⊎ ((b ≡ T) ⊎ ((b ≡ W) ⊎ (b ≡ X))))
+five_letters letter_H = inl refl
+five_letters letter_S = inr (inl refl)
+five_letters letter_T = inr (inr (inl refl))
+five_letters letter_W = inr (inr (inr (inl refl)))
+five_letters letter_X = inr (inr (inr (inr refl)))
 
--- so each letter of a form has its product, as its branch computes it
+-- each has its product, as its branch computes it
 pub prefixed_H : {b : ℕ} (m : Matrix) {r : Matrix} → b ≡ H → r ≡ record_without_H m → r ≡ times (gate b) m
 unfolding gate
 prefixed_H m is e = rw is (e ∙ H_times m)
@@ -90,6 +90,9 @@ pub prefixed_W : {b : ℕ} (m : Matrix) {r : Matrix} → b ≡ W →
 unfolding gate gate_W ω
 prefixed_W m is e = rw is e
 
-pub prefixed_X : {b : ℕ} (m : Matrix) {r : Matrix} → FormLetter b → b ≢ H → b ≢ S → b ≢ T → b ≢ W → r ≡ record_without_X m → r ≡ times (gate b) m
+pub prefixed_X : {b : ℕ} (m : Matrix) {r : Matrix} → b ≡ X → r ≡ record_without_X m → r ≡ times (gate b) m
 unfolding gate
-prefixed_X m letter not_H not_S not_T not_W e = rw (last_letter letter not_H not_S not_T not_W) (e ∙ X_times m)
+prefixed_X m is e = rw is (e ∙ X_times m)
+
+-- a letter's product, by which byte it is
+pub ruleset letter_products = (five_letters, prefixed_H, prefixed_S, prefixed_T, prefixed_W, prefixed_X)

@@ -1,5 +1,6 @@
 -- A string whose form holds many T's has a high least exponent: a record with exponent k has a letter list with at most
--- 2k + 1 T's, and the form has no more. And a string is expanded as its form is. Assumes nothing.
+-- 2k + 1 T's, and the form has no more. A form with few T's is answered by its least record, and a string is expanded as its
+-- form is. Assumes nothing.
 use Prim.Native.Nat.{ℕ, ◌+◌, ◌*◌, ◌≤◌, ◌<◌}
 use native.Mathlib.Omega.{arith}
 use mathlib.Core.List.{List}

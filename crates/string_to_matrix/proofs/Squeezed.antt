@@ -1,5 +1,5 @@
 -- What string to form says, with room for every form, as string to matrix needs it: a refusal of the string, or the form at
--- the start of the buffer. Assumes nothing.
+-- the start of the buffer, by whose T's the string is refused or expanded. Assumes nothing.
 use Prim.Native.Nat.{ℕ, ◌≤◌, ◌<◌}
 use native.Mathlib.Omega.{arith}
 use mathlib.Core.List.{List}
@@ -77,7 +77,7 @@ pub formed_many : {text before after : List ℕ} {x : Figures} →
     StringToForm text before (accepted x) after → t_limit < x.tcount → StringToMatrix text (refusal HighLeastExponent)
 formed_many told many = let f = formed told in many_T's f.accepted_string f.form_of (omega (arith, f.t_counted))
 
--- one with few T's is asked about in place of the string
+-- one with few T's is expanded in place of the string
 pub formed_few : {text before after : List ℕ} {x : Figures} →
     StringToForm text before (accepted x) after → x.tcount ≤ t_limit → Form (take x.length after) × (t_count (take x.length after) ≤ t_limit)
 formed_few told few = let f = formed told in rw f.start (f.form_of.form, omega (arith, f.t_counted))

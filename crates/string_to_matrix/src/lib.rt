@@ -61,7 +61,7 @@ fn by_diagonal(u: Element, w: Element, m: Matrix) -> Matrix
 }
 
 // A letter of a form, its matrix times a record. H and X are their own inverses: they come on as they are taken off.
-#[tactic(auto, using(crate::proofs::Gates::prefixed_H, crate::proofs::Gates::prefixed_S, crate::proofs::Gates::prefixed_T, crate::proofs::Gates::prefixed_W, crate::proofs::Gates::prefixed_X))]
+#[tactic(auto, using(crate::proofs::Gates::letter_products))]
 fn prefixed(letter: u8, m: Matrix) -> Matrix
     requires form_letter { FormLetter letter }
     requires roomy { Roomy m }

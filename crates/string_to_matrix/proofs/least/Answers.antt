@@ -10,11 +10,12 @@ use Rattle.string_to_matrix.proofs.least.Goals as goal
 pub loop-r-init : goal.loop-r-init
 loop-r-init c = (same_refl _, omega arith)
 
-pub reducible-requires : goal.reducible-requires
-reducible-requires c = tt
-
 pub lowered-r-requires : goal.lowered-r-requires
-lowered-r-requires c = record { roomy = roomy_lower c.loop-r.invariant.0 c.loop-r.invariant.1 c.requires; reducible = subst (Reduces c.loop-r.r) c.loop-r-test.true c.reducible.ensures }
+lowered-r-requires c =
+    record {
+      roomy = roomy_lower c.loop-r.invariant.0 c.loop-r.invariant.1 c.requires;
+      reducible = subst (Reduces c.loop-r.r) c.loop-r-test.true c.reducible.ensures;
+    }
 
 pub loop-r-smaller : goal.loop-r-smaller
 loop-r-smaller c = let lower = c.lowered-r.ensures.lower in omega arith

@@ -17,7 +17,13 @@ unfolding matrix_of
 loop-done-init c = (search rules, c.identity-m.ensures ∙ ap matrix_of (sym (ending_none c.args.form.now)))
 
 pub prefixed-m-requires : goal.prefixed-m-requires
-prefixed-m-requires c = record { form_letter = form_letter_at c.requires.form _ (omega arith); roomy = subst Roomy (sym c.loop-done.invariant.1) (ending_roomy c.loop-done.done c.requires.form c.requires.form_bound) }
+prefixed-m-requires c =
+    let loop = c.loop-done in
+    let pre = c.requires in
+    record {
+      form_letter = form_letter_at pre.form _ (omega arith);
+      roomy = subst Roomy (sym loop.invariant.1) (ending_roomy loop.done pre.form pre.form_bound);
+    }
 
 pub loop-done-preserved : goal.loop-done-preserved
 loop-done-preserved c =

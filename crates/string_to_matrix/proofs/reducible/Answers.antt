@@ -9,13 +9,16 @@ pub returns-then-m-eq0 : goal.returns-then-m-eq0
 returns-then-m-eq0 c = least_at_zero c.args.m c.if-m-eq0.true
 
 pub returns-then-not-divides_by_root2 : goal.returns-then-not-divides_by_root2
-returns-then-not-divides_by_root2 c = least_undivided _ (λ v. pairs_where_told c.divides_by_root2.ensures c.if-not-divides_by_root2.true v.top_left)
+returns-then-not-divides_by_root2 c =
+    least_undivided _ (λ v. pairs_where_told c.divides_by_root2.ensures c.if-not-divides_by_root2.true v.top_left)
 
 pub returns-then-not-divides_by_root2-2 : goal.returns-then-not-divides_by_root2-2
-returns-then-not-divides_by_root2-2 c = least_undivided _ (λ v. pairs_where_told c.divides_by_root2-2.ensures c.if-not-divides_by_root2-2.true v.top_right)
+returns-then-not-divides_by_root2-2 c =
+    least_undivided _ (λ v. pairs_where_told c.divides_by_root2-2.ensures c.if-not-divides_by_root2-2.true v.top_right)
 
 pub returns-then-not-divides_by_root2-3 : goal.returns-then-not-divides_by_root2-3
-returns-then-not-divides_by_root2-3 c = least_undivided _ (λ v. pairs_where_told c.divides_by_root2-3.ensures c.if-not-divides_by_root2-3.true v.bottom_left)
+returns-then-not-divides_by_root2-3 c =
+    least_undivided _ (λ v. pairs_where_told c.divides_by_root2-3.ensures c.if-not-divides_by_root2-3.true v.bottom_left)
 
 pub returns : goal.returns
 returns c =
