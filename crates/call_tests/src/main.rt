@@ -223,16 +223,12 @@ enum Call {
 }
 
 fn call_of(name: &[u8]) -> Call {
-    if name == b"read" {
-        Call::Read
-    } else if name == b"compare" {
-        Call::Compare
-    } else if name == b"matrix" {
-        Call::Matrix
-    } else if name == b"frame" {
-        Call::Frame
-    } else {
-        Call::Other
+    match name {
+        b"read" => Call::Read,
+        b"compare" => Call::Compare,
+        b"matrix" => Call::Matrix,
+        b"frame" => Call::Frame,
+        _ => Call::Other,
     }
 }
 
@@ -261,7 +257,7 @@ fn answer(line: &[u8], output: &mut [u8], at: usize) -> usize
 }
 
 // The number of turns is one that no input uses up.
-#[tactic(auto, using(lines::proofs::Block::put_within), unfolding(lines::specs::Progress::Ready))]
+#[tactic(auto, unfolding(lines::specs::Progress::Ready))]
 fn run<R: std::io::Read, W: std::io::Write>(
     reader: &mut R,
     writer: &mut W,
