@@ -141,11 +141,7 @@ pub fn chorvadhim_string_to_form(text: &[u8], buffer: &mut [u8]) -> u64
     written_word(string_to_form::string_to_form(text, buffer))
 }
 
-pub fn chorvadhim_matrix_to_form(
-    exponent: u32,
-    coefficients: &[i64; 16],
-    buffer: &mut [u8],
-) -> u64
+pub fn chorvadhim_matrix_to_form(exponent: u32, coefficients: &[i64; 16], buffer: &mut [u8]) -> u64
     ensures { MatrixToFormWord exponent coefficients.now buffer.old result buffer.new }
 {
     let m = coefficients::record_of(exponent, coefficients);
@@ -182,11 +178,7 @@ pub fn chorvadhim_frame_to_matrix(text: &[u8], coefficients: &mut [i64; 16]) -> 
     returned_word(frame::frame_to_matrix(text), coefficients)
 }
 
-pub fn chorvadhim_matrix_to_frame(
-    exponent: u32,
-    coefficients: &[i64; 16],
-    buffer: &mut [u8],
-) -> u64
+pub fn chorvadhim_matrix_to_frame(exponent: u32, coefficients: &[i64; 16], buffer: &mut [u8]) -> u64
     ensures { MatrixToFrameWord exponent coefficients.now buffer.old result buffer.new }
 {
     let m = coefficients::record_of(exponent, coefficients);

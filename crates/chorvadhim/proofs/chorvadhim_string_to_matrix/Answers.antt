@@ -1,5 +1,4 @@
 -- `chorvadhim::chorvadhim_string_to_matrix` meets its contract: what the call says is legible, and is packed. Assumes nothing.
-use borrow.Author.Rules.{rules}
 use Rattle.chorvadhim.proofs.Legible.{string_to_matrix_legible}
 use Rattle.chorvadhim.proofs.chorvadhim_string_to_matrix.Goals as goal
 

@@ -1,6 +1,5 @@
 -- `chorvadhim::returned_word` meets its contract: a record's coefficients are left in the lent array and its exponent is packed; a
 -- refusal is packed, and the array stays. Assumes nothing.
-use borrow.Author.Rules.{rules}
 use Prim.Native.Nat.{ℕ}
 use mathlib.Core.List.{List}
 use mathlib.Core.Path.{ap, sym, subst, ◌∙◌}
