@@ -2,9 +2,10 @@
 -- least. Assumes nothing.
 use Prim.Native.Nat.{suc, ◌-◌, ◌≤◌, ◌<◌}
 use native.Mathlib.Omega.{arith}
-use mathlib.Core.Bool.{Bool, true, false, true≢false}
+use mathlib.Core.Bool.{Bool, true, false, not, true≢false}
 use mathlib.Core.Logic.{◌↔◌}
 use mathlib.Core.Path.{◌≡◌, refl, sym, ◌∙◌}
+use borrow.Author.Tests.{not-true, not-false}
 use Rattle.ring.specs.declared.Element.{Element}
 use Rattle.ring.specs.Element.{root2, product}
 use Rattle.ring.specs.Divided.{Root2Divides}
@@ -45,9 +46,15 @@ lowered_by {m} v ea eb ec ed =
       lower = falls;
     }
 
--- what the test of an element says where it fails
-pub pairs_where_told : {t : Bool} {x : Element} → (t ≡ true ↔ Root2Divides x) → t ≡ false → EvenPairs x → ⊥
-pairs_where_told told e pairs = true≢false (sym (told.1 (divided_of_pairs pairs)) ∙ e)
+-- what the test of an element says
+pub divides_where_told : {t : Bool} {x : Element} → (t ≡ true ↔ Root2Divides x) → not t ≡ false → Root2Divides x
+divides_where_told {t} told e = told.0 (not-false t e)
+
+pub pairs_where_false : {t : Bool} {x : Element} → (t ≡ true ↔ Root2Divides x) → t ≡ false → EvenPairs x → ⊥
+pairs_where_false told e pairs = true≢false (sym (told.1 (divided_of_pairs pairs)) ∙ e)
+
+pub pairs_where_told : {t : Bool} {x : Element} → (t ≡ true ↔ Root2Divides x) → not t ≡ true → EvenPairs x → ⊥
+pairs_where_told {t} told e = pairs_where_false told (not-true t e)
 
 -- the last element decides
 pub reduces_by_last : (t : Bool) {m : Matrix} → 0 < m.exponent →

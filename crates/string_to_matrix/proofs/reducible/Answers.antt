@@ -2,7 +2,7 @@
 -- divide. Assumes nothing.
 use native.Mathlib.Omega.{arith}
 use Rattle.matrix.proofs.Least.{least_at_zero, least_undivided}
-use Rattle.string_to_matrix.proofs.Reduced.{pairs_where_told, reduces_by_last}
+use Rattle.string_to_matrix.proofs.Reduced.{pairs_where_false, reduces_by_last}
 use Rattle.string_to_matrix.proofs.reducible.Goals as goal
 
 pub returns-then-m-eq0 : goal.returns-then-m-eq0
@@ -10,15 +10,15 @@ returns-then-m-eq0 c = least_at_zero c.args.m c.if-m-eq0.true
 
 pub returns-then-not-divides_by_root2 : goal.returns-then-not-divides_by_root2
 returns-then-not-divides_by_root2 c =
-    least_undivided _ (λ v. pairs_where_told c.divides_by_root2.ensures c.if-not-divides_by_root2.true v.top_left)
+    least_undivided _ (λ v. pairs_where_false c.divides_by_root2.ensures c.if-not-divides_by_root2.true v.top_left)
 
 pub returns-then-not-divides_by_root2-2 : goal.returns-then-not-divides_by_root2-2
 returns-then-not-divides_by_root2-2 c =
-    least_undivided _ (λ v. pairs_where_told c.divides_by_root2-2.ensures c.if-not-divides_by_root2-2.true v.top_right)
+    least_undivided _ (λ v. pairs_where_false c.divides_by_root2-2.ensures c.if-not-divides_by_root2-2.true v.top_right)
 
 pub returns-then-not-divides_by_root2-3 : goal.returns-then-not-divides_by_root2-3
 returns-then-not-divides_by_root2-3 c =
-    least_undivided _ (λ v. pairs_where_told c.divides_by_root2-3.ensures c.if-not-divides_by_root2-3.true v.bottom_left)
+    least_undivided _ (λ v. pairs_where_false c.divides_by_root2-3.ensures c.if-not-divides_by_root2-3.true v.bottom_left)
 
 pub returns : goal.returns
 returns c =
