@@ -5,38 +5,16 @@ ghost use Rattle.std.specs.Prelude.{◌≡◌};
 ghost use Rattle.matrix.specs.Letter.{is_letter};
 ghost use Rattle.lists.specs.Found.{Finds};
 
-use lists::Found;
-
+#[tactic(auto, unfolding(matrix::specs::Letter::is_letter))]
 pub fn is_letter(b: u8) -> bool
     ensures { result ≡ is_letter b }
 {
-    if b == b'H' {
-        true
-    } else if b == b'S' {
-        true
-    } else if b == b'T' {
-        true
-    } else if b == b'W' {
-        true
-    } else if b == b'X' {
-        true
-    } else if b == b'Y' {
-        true
-    } else {
-        b == b'Z'
-    }
+    matches!(b, b'H' | b'S' | b'T' | b'W' | b'X' | b'Y' | b'Z')
 }
 
 // The first place of a byte outside the letters.
-pub fn first_bad(text: &[u8]) -> Found
+pub fn first_bad(text: &[u8]) -> Option<usize>
     ensures { Finds is_letter text.now result }
 {
-    let mut i = 0;
-    while i < text.len() {
-        if !is_letter(text[i]) {
-            return Found::First(i);
-        }
-        i += 1;
-    }
-    Found::Absent
+    text.iter().position(|b| !is_letter(*b))
 }

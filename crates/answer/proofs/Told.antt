@@ -1,19 +1,14 @@
--- What is said tells the answer: no two entries of the table are said alike, by number and place, and no two values of the enums
--- that calls answer with. Assumes nothing.
+-- What is said tells the answer: no two entries of the table are said alike, by number and place, and no two values that
+-- a call returns. Assumes nothing.
 use Prim.Native.Nat.{ℕ}
+use Rattle.std.specs.Prelude.{Result, Ok, Err}
 use mathlib.Core.Bool.{cond}
 use native.Mathlib.Omega.{arith}
 use mathlib.Core.Path.{◌≡◌, refl, sym, ap, ap₂, ◌∙◌}
 use lib.Dec.{eqb}
 use Rattle.answer.specs.declared.Refusal.{Refusal}
 use Rattle.answer.specs.declared.Refusal.TheVariants.{BadLetter, TooLong, NoRoom, HighExponent, WideCoefficient, NotUnitary, NotForm, HighLeastExponent, BadFrame, BadCheckWord}
-use Rattle.answer.specs.declared.Written.{Written}
-use Rattle.answer.specs.declared.Written.TheVariants.{Form, Refused}
-use Rattle.answer.specs.declared.Returned.{Returned}
-use Rattle.answer.specs.declared.Returned.TheVariants.{Record, Refused as NotReturned}
-use Rattle.answer.specs.Refusal.{Said, accepted, refused, number, place, refusal}
-use Rattle.answer.specs.Written.{said}
-use Rattle.answer.specs.Returned.{said as said_returned}
+use Rattle.answer.specs.Refusal.{Said, accepted, refused, number, place, refusal, said}
 
 -- the entry with this number and place
 entry : ℕ → ℕ → Refusal
@@ -51,14 +46,8 @@ refusal_told r s same =
 pub accepted_is_not_refused : {A : Type 0} {values : A} {n p : ℕ} → ◌≡◌ {A = Said A} (accepted values) (refused n p) → ⊥
 accepted_is_not_refused same = let z : ◌≡◌ {A = ℕ} 0 1 = cc in omega arith
 
-pub written_told : (a b : Written) → said a ≡ said b → a ≡ b
-written_told (Form x) (Form y) same = let figures : x ≡ y = cc in ap Form figures
-written_told (Form x) (Refused s) same = absurd (accepted_is_not_refused same)
-written_told (Refused r) (Form y) same = absurd (accepted_is_not_refused (sym same))
-written_told (Refused r) (Refused s) same = ap Refused (refusal_told r s same)
-
-pub returned_told : (a b : Returned) → said_returned a ≡ said_returned b → a ≡ b
-returned_told (Record m) (Record n) same = let records : m ≡ n = cc in ap Record records
-returned_told (Record m) (NotReturned s) same = absurd (accepted_is_not_refused same)
-returned_told (NotReturned r) (Record n) same = absurd (accepted_is_not_refused (sym same))
-returned_told (NotReturned r) (NotReturned s) same = ap NotReturned (refusal_told r s same)
+pub said_told : {A : Type 0} (a b : Result A Refusal) → said a ≡ said b → a ≡ b
+said_told (Ok x) (Ok y) same = let values : x ≡ y = cc in ap Ok values
+said_told (Ok x) (Err s) same = absurd (accepted_is_not_refused same)
+said_told (Err r) (Ok y) same = absurd (accepted_is_not_refused (sym same))
+said_told (Err r) (Err s) same = ap Err (refusal_told r s same)

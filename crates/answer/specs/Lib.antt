@@ -1,4 +1,3 @@
 pub mod Limits
 pub mod Refusal
 pub mod Written
-pub mod Returned

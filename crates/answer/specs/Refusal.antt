@@ -1,5 +1,5 @@
 -- Document 01, "Refusals": the table. A refusal has its number and its place, and nothing else.
-use Rattle.std.specs.Prelude.{ℕ}
+use Rattle.std.specs.Prelude.{ℕ, Result, Ok, Err}
 use Rattle.answer.specs.Limits.{check_word_place}
 use Rattle.answer.specs.declared.Refusal.{Refusal}
 use Rattle.answer.specs.declared.Refusal.TheVariants.{BadLetter, TooLong, NoRoom, HighExponent, WideCoefficient, NotUnitary, NotForm, HighLeastExponent, BadFrame, BadCheckWord}
@@ -38,3 +38,8 @@ pub data Said (A : Type 0) : Type 0 where
 -- a refusal of the table, as it is said
 abbrev pub refusal : {A : Type 0} → Refusal → Said A
 refusal r = refused (number r) (place r)
+
+-- the paper's number and values for each case of what a call returns
+abbrev pub said : {A : Type 0} → Result A Refusal → Said A
+said (Ok values) = accepted values
+said (Err r) = refusal r

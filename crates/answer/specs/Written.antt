@@ -1,17 +1,10 @@
--- Document 01, "Refusals": the answer of a call that writes a form, and what it leaves in the lent buffer.
+-- Document 01, "Refusals": what a call that writes a form answers, and what it leaves in the lent buffer.
 use Rattle.std.specs.Prelude.{ℕ, ◌<◌, ◌≤◌, List, ◌++◌}
 use Rattle.std.proofs.Math.ListN as L
 use Rattle.form.specs.Count.{t_count, h_count}
 use Rattle.answer.specs.declared.Refusal.TheVariants.{NoRoom}
 use Rattle.answer.specs.declared.Figures.{Figures}
-use Rattle.answer.specs.declared.Written.{Written}
-use Rattle.answer.specs.declared.Written.TheVariants.{Form, Refused}
 use Rattle.answer.specs.Refusal.{Said, accepted, refusal}
-
--- the paper's number and values for each case of the enum
-abbrev pub said : Written → Said Figures
-said (Form figures) = accepted figures
-said (Refused r) = refusal r
 
 -- "An answer with a form carries length, T-count and H-count."
 unfoldable pub figures_of : List ℕ → Figures

@@ -4,8 +4,6 @@
 ghost use Rattle.std.specs.Prelude.{◌≡◌};
 ghost use Rattle.answer.specs.Refusal.{number, place};
 
-use matrix::Matrix;
-
 pub const STRING_LIMIT: usize = 4096;
 
 pub const FORM_LIMIT: usize = 12301;
@@ -18,7 +16,8 @@ pub const FRAME_LENGTH: usize = 138;
 
 pub const CHECK_WORD_PLACE: usize = 130;
 
-#[derive(Clone, Copy)]
+// A call that cannot answer gives one of these in its `Err`.
+#[derive(Clone, Copy, Debug, PartialEq, Eq)]
 pub enum Refusal {
     BadLetter { place: usize },
     TooLong { limit: usize },
@@ -38,20 +37,6 @@ pub struct Figures {
     pub length: usize,
     pub tcount: usize,
     pub hcount: usize,
-}
-
-// The answer of a call that writes a form.
-#[derive(Clone, Copy)]
-pub enum Written {
-    Form(Figures),
-    Refused(Refusal),
-}
-
-// The answer of a call that returns a record.
-#[derive(Clone, Copy)]
-pub enum Returned {
-    Record(Matrix),
-    Refused(Refusal),
 }
 
 impl Refusal {

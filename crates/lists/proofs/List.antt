@@ -1,12 +1,16 @@
 -- Lists, member by member: what holds of every member holds of one, of parts and of two lists joined; and before the first
 -- member that fails a test all pass, so that it is one place of the list, and a list that passes has none. Assumes nothing.
-use Prim.Native.Nat.{ℕ, zero, suc, ◌<◌}
+use Prim.Native.Nat.{ℕ, zero, suc, ◌+◌, ◌<◌, ◌≤◌}
 use native.Mathlib.Nat.{not-suc-le-zero, le_of_suc-le-suc}
 use native.Mathlib.Omega.{arith}
-use mathlib.Core.Bool.{Bool, false, true≢false}
+use mathlib.Core.Bool.{Bool, false, true, not, cond, true≢false}
 use mathlib.Core.List.{List, [], ◌∷◌, ◌++◌}
-use mathlib.Core.Path.{◌≡◌, refl, sym, ◌∙◌, ap}
+use mathlib.Core.Path.{◌≡◌, refl, sym, ◌∙◌, ap, subst}
 use lib.ListN.{length, take, drop, get_or, replicate}
+use Rattle.std.specs.Prelude.{Some, None, position, nat_lt}
+use Rattle.std.specs.List.{prefix_len}
+use Rattle.std.proofs.lemmas.Bool.{ltb-true, ltb-false}
+use Rattle.lists.specs.Found.{Finds}
 use Rattle.lists.specs.List.{Every, none, more, AllPass, FirstFailing, here, later}
 
 -- ---- every member
@@ -75,3 +79,39 @@ fails_once (later e a) (later f b) = ap suc (fails_once a b)
 pub fails_within : {A : Type 0} {test : A → Bool} {s : List A} {p : ℕ} → FirstFailing test s p → p < length s
 fails_within (here e) = omega arith
 fails_within (later e rest) = omega (arith, fails_within rest)
+
+-- ---- what a search by `position` finds: where it stops a member fails, and where it stops nowhere all pass
+stops : {A : Type 0} (test : A → Bool) → List A → ℕ
+stops test s = prefix_len (λ x. not (not (test x))) s
+
+fails_next : {A : Type 0} (test : A → Bool) (a : A) (s : List A) (passes : Bool) → test a ≡ passes →
+    (stops test s < length s → FirstFailing test s (stops test s)) → cond (not (not passes)) (1 + stops test s) 0 < suc (length s) →
+    FirstFailing test (a ∷ s) (cond (not (not passes)) (1 + stops test s) 0)
+fails_next test a s false e rest h = here e
+fails_next test a s true e rest h =
+    let next : suc (stops test s) ≡ 1 + stops test s = omega arith in
+    subst (λ (n : ℕ). FirstFailing test (a ∷ s) n) next (later e (rest (omega arith)))
+
+fails_at_stop : {A : Type 0} (test : A → Bool) (s : List A) → stops test s < length s → FirstFailing test s (stops test s)
+unfolding stops
+fails_at_stop test [] h = absurd (omega arith)
+fails_at_stop test (a ∷ s) h = fails_next test a s (test a) refl (fails_at_stop test s) h
+
+passes_next : {A : Type 0} (test : A → Bool) (a : A) (s : List A) (passes : Bool) → test a ≡ passes →
+    (length s ≤ stops test s → AllPass test s) → suc (length s) ≤ cond (not (not passes)) (1 + stops test s) 0 → AllPass test (a ∷ s)
+passes_next test a s false e rest h = absurd (omega arith)
+passes_next test a s true e rest h = more e (rest (omega arith))
+
+passes_without_stop : {A : Type 0} (test : A → Bool) (s : List A) → length s ≤ stops test s → AllPass test s
+unfolding stops
+passes_without_stop test [] h = none
+passes_without_stop test (a ∷ s) h = passes_next test a s (test a) refl (passes_without_stop test s) h
+
+finds_by : {A : Type 0} (test : A → Bool) (s : List A) (within : Bool) → nat_lt (stops test s) (length s) ≡ within →
+    Finds test s (cond within (Some (stops test s)) None)
+finds_by test s true e = fails_at_stop test s (ltb-true _ _ e)
+finds_by test s false e = passes_without_stop test s (ltb-false _ _ e)
+
+pub finds_position : {A : Type 0} (test : A → Bool) (s : List A) → Finds test s (position (λ x. not (test x)) s)
+unfolding stops
+finds_position test s = finds_by test s (nat_lt (stops test s) (length s)) refl

@@ -7,7 +7,7 @@ ghost use Rattle.ring.specs.Element.{sum, negation, multiple, turned, product, c
 ghost use Rattle.ring.specs.Bounds.{Small, Multiplied, Factors};
 ghost use Rattle.ring.specs.Divided.{Root2Divides, Double};
 
-#[derive(Clone, Copy)]
+#[derive(Clone, Copy, PartialEq, Eq)]
 pub struct Element {
     pub a0: i64,
     pub a1: i64,
