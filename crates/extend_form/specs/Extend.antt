@@ -1,12 +1,10 @@
 -- What it means that letters extend a form that a stack and a state keep, however many letters they are.
-use Rattle.std.specs.Prelude.{ℕ, ◌≤◌, List, ◌++◌, ◌≡◌}
+use Rattle.std.specs.Prelude.{ℕ, ◌≤◌, List, ◌++◌, ◌≡◌, Result, Ok, Err}
 use Rattle.matrix.specs.Matrix.{Same}
 use Rattle.matrix.specs.Letter.{Letters, FirstBad, matrix_of}
 use Rattle.form.specs.Count.{t_count}
 use Rattle.stack.specs.declared.State.{State}
 use Rattle.stack.specs.State.{state_text, WellFormed}
-use Rattle.extend_form.specs.declared.Extension.{Extension}
-use Rattle.extend_form.specs.declared.Extension.TheVariants.{Bad, Whole}
 
 -- the state of the empty form
 pub record Fresh (state : State) : Type 0 where
@@ -24,6 +22,6 @@ pub record Extended (stack : List ℕ) (state : State) (w : List ℕ) (stack' : 
   pub extends : Extends (state_text stack state) w (state_text stack' state')
 
 -- what extending by a text finds: the first bad place, or the form extended by all of it
-abbrev pub ExtendsByText : List ℕ → State → List ℕ → List ℕ → Extension → Type 0
-ExtendsByText stack state w stack' (Bad p) = FirstBad w p
-ExtendsByText stack state w stack' (Whole state') = Letters w × Extended stack state w stack' state'
+abbrev pub ExtendsByText : List ℕ → State → List ℕ → List ℕ → Result State ℕ → Type 0
+ExtendsByText stack state w stack' (Err p) = FirstBad w p
+ExtendsByText stack state w stack' (Ok state') = Letters w × Extended stack state w stack' state'

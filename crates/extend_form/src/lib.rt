@@ -10,13 +10,6 @@ ghost use Rattle.extend_form.specs.Extend.{Fresh, Extended, ExtendsByText};
 
 use stack::State;
 
-// What extending by a text gives: the first bad place, or the state after all of its letters.
-#[derive(Clone, Copy)]
-pub enum Extension {
-    Bad(usize),
-    Whole(State),
-}
-
 // The empty form.
 pub fn fresh() -> State
     ensures { Fresh result }
@@ -87,8 +80,13 @@ pub fn by_letter(products: &[u8; 1152], stack: &mut [u8], state: State, letter: 
     }
 }
 
-// The form extended by the letters of a text, in one pass, up to a byte that is none.
-pub fn by_text(products: &[u8; 1152], stack: &mut [u8], start: State, text: &[u8]) -> Extension
+// The form extended by the letters of a text, in one pass, up to a byte that is none: its place is the `Err`.
+pub fn by_text(
+    products: &[u8; 1152],
+    stack: &mut [u8],
+    start: State,
+    text: &[u8],
+) -> Result<State, usize>
     requires product_table { ProductTable products.now }
     requires well_formed { WellFormed stack.old start }
     requires text_in_bounds { start.count + length text.now ≤ length stack.old }
@@ -99,10 +97,10 @@ pub fn by_text(products: &[u8; 1152], stack: &mut [u8], start: State, text: &[u8
     while i < text.len() {
         let letter = text[i];
         if !alphabet::is_letter(letter) {
-            return Extension::Bad(i);
+            return Err(i);
         }
         state = by_letter(products, stack, state, letter);
         i += 1;
     }
-    Extension::Whole(state)
+    Ok(state)
 }

@@ -1,12 +1,11 @@
 -- What a string gives before anything is written: a refusal, 2 then 1, or its form, as a stack and a state spell it.
-use Rattle.std.specs.Prelude.{ℕ, ◌≤◌, List}
+use Rattle.std.specs.Prelude.{ℕ, ◌≤◌, List, Result, Ok, Err}
 use Rattle.form.specs.Form.{FormOf}
 use Rattle.alphabet.specs.String.{AcceptedString, RefusedString}
 use Rattle.answer.specs.Limits.{string_limit}
 use Rattle.stack.specs.declared.State.{State}
 use Rattle.stack.specs.State.{state_text, WellFormed}
-use Rattle.normalise.specs.declared.Normalised.{Normalised}
-use Rattle.normalise.specs.declared.Normalised.TheVariants.{Form, Refused}
+use Rattle.answer.specs.declared.Refusal.{Refusal}
 
 -- an accepted string, and the stack and state that spell its form
 pub record HeldForm (text stack : List ℕ) (state : State) : Type 0 where
@@ -15,6 +14,6 @@ pub record HeldForm (text stack : List ℕ) (state : State) : Type 0 where
   pub few : state.count ≤ string_limit
   pub form : FormOf text (state_text stack state)
 
-abbrev pub Normalises : List ℕ → List ℕ → Normalised → Type 0
-Normalises text stack (Form state) = HeldForm text stack state
-Normalises text stack (Refused refusal) = RefusedString text refusal
+abbrev pub Normalises : List ℕ → List ℕ → Result State Refusal → Type 0
+Normalises text stack (Ok state) = HeldForm text stack state
+Normalises text stack (Err refusal) = RefusedString text refusal

@@ -7,14 +7,7 @@ ghost use Rattle.tail.specs.Product.{ProductTable};
 ghost use Rattle.normalise.specs.Normalise.{Normalises};
 
 use answer::{Refusal, STRING_LIMIT};
-use extend_form::Extension;
 use stack::State;
-
-#[derive(Clone, Copy)]
-pub enum Normalised {
-    Form(State),
-    Refused(Refusal),
-}
 
 // A stack for any string within the limit.
 pub fn empty_stack() -> [u8; STRING_LIMIT]
@@ -25,18 +18,15 @@ pub fn empty_stack() -> [u8; STRING_LIMIT]
 
 // One pass over the letters, up to a byte that is none.
 #[tactic(auto, using(alphabet::specs::String::too_long))]
-pub fn normalise(products: &[u8; 1152], stack: &mut [u8], text: &[u8]) -> Normalised
+pub fn normalise(products: &[u8; 1152], stack: &mut [u8], text: &[u8]) -> Result<State, Refusal>
     requires product_table { ProductTable products.now }
     requires string_limit_in_bounds { string_limit ≤ length stack.old }
     ensures { Normalises text.now stack.new result }
 {
     if STRING_LIMIT < text.len() {
         let limit = STRING_LIMIT;
-        return Normalised::Refused(Refusal::TooLong { limit });
+        return Err(Refusal::TooLong { limit });
     }
-    let taken = extend_form::by_text(products, stack, extend_form::fresh(), text);
-    match taken {
-        Extension::Bad(place) => Normalised::Refused(Refusal::BadLetter { place }),
-        Extension::Whole(state) => Normalised::Form(state),
-    }
+    extend_form::by_text(products, stack, extend_form::fresh(), text)
+        .map_err(|place| Refusal::BadLetter { place })
 }
