@@ -17,7 +17,7 @@ use Rattle.read_form.specs.Part.{Any, Longest}
 
 -- the longest form is the whole text
 pub whole_text_is_form :
-    (text : List ℕ) (r : Reading) → L.length text ≤ form_limit → Longest Any text r → r.length ≡ L.length text →
+    (text : List ℕ) (r : Reading) → L.length text ≤ form_limit → Longest Any text r → r.figures.length ≡ L.length text →
     ReadForm text (accepted r)
 whole_text_is_form text r inside found whole =
     subst (λ (x : Reading). ReadForm text (accepted x)) (sym told)
@@ -30,7 +30,7 @@ whole_text_is_form text r inside found whole =
     told = found.read ∙ ap (λ (t : List ℕ). reading_of t found.parts.tail) (sym spelled)
 
 -- the longest form as a longest prefix
-longest_prefix : (text : List ℕ) (r : Reading) → Longest Any text r → LongestPrefix text r.length
+longest_prefix : (text : List ℕ) (r : Reading) → Longest Any text r → LongestPrefix text r.figures.length
 longest_prefix text r found =
     record {
       within = found.within;
@@ -41,7 +41,7 @@ longest_prefix text r found =
 -- the longest form is not the whole text
 pub shorter_is_refused :
     (text : List ℕ) (r : Reading) → L.length text ≤ form_limit → Letters text → Longest Any text r →
-    (r.length ≡ L.length text → ⊥) → ReadForm text (refusal (NotForm r.length))
+    (r.figures.length ≡ L.length text → ⊥) → ReadForm text (refusal (NotForm r.figures.length))
 shorter_is_refused text r inside letters found short = not_form inside letters no_form (longest_prefix text r found)
   where
     no_form : Form text → ⊥

@@ -2,25 +2,14 @@
 use Prim.Native.Nat.{ℕ, zero, suc, ◌≤◌, ◌<◌}
 use native.Mathlib.Nat.{not-suc-le-zero}
 use native.Mathlib.Omega.{arith}
-use mathlib.Core.Bool.{Bool, true, false}
 use mathlib.Core.List.{List, [], ◌∷◌}
-use mathlib.Core.Path.{◌≡◌, refl, subst}
+use mathlib.Core.Path.{◌≡◌, refl}
 use lib.ListN.{length, take}
 use Rattle.matrix.specs.Letter.{H, S, T}
 use Rattle.form.specs.Tail.{head_text}
 use Rattle.form.specs.Form.{Syllable, HT, SHT, syllable_text}
-use Rattle.read_form.specs.Part.{Begins, Head, LeadingSyllable}
+use Rattle.read_form.specs.Part.{Head, LeadingSyllable}
 use Rattle.read_form.proofs.Taking.{byte_of_front, front_within}
-
--- the two answers of `begins`
-pub does_begin : {r : Bool} (text front : List ℕ) → Begins text front r → r ≡ true → take (length front) text ≡ front
-does_begin text front told yes_it_does = subst (Begins text front) yes_it_does told
-
-pub does_not_begin : {r : Bool} (text front : List ℕ) → Begins text front r → r ≡ false → take (length front) text ≡ front → ⊥
-does_not_begin text front told it_does_not = subst (Begins text front) it_does_not told
-
-pub begins_inside : {r : Bool} (text front : List ℕ) → Begins text front r → r ≡ true → length front ≤ length text
-begins_inside text front told yes_it_does = front_within text front (does_begin text front told yes_it_does)
 
 -- texts whose first bytes differ
 H_or_S : (text : List ℕ) (s t : List ℕ) → take (length (H ∷ s)) text ≡ H ∷ s → take (length (S ∷ t)) text ≡ S ∷ t → ⊥

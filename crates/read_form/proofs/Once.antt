@@ -4,19 +4,19 @@ use Prim.Native.Nat.{ℕ, ◌≤◌}
 use native.Mathlib.Omega.{arith}
 use mathlib.Core.List.{List}
 use mathlib.Core.Logic.{◌↔◌}
-use mathlib.Core.Path.{◌≡◌, refl, sym, ap}
+use mathlib.Core.Path.{◌≡◌, refl, ap}
 use lib.ListN as L
+use Rattle.std.specs.Prelude.{Result}
 use Rattle.lists.proofs.List.{passes_or_fails, fails_once}
 use Rattle.form.specs.Form.{Form, Parts}
 use Rattle.form.proofs.Grammar.{form_parts_unique}
 use Rattle.form.proofs.Spelled.{form_is_letters}
+use Rattle.answer.specs.declared.Refusal.{Refusal}
 use Rattle.answer.specs.Limits.{form_limit}
-use Rattle.answer.specs.Refusal.{Said, accepted, refused}
+use Rattle.answer.specs.Refusal.{Said, accepted, refused, said}
 use Rattle.read_form.specs.declared.Reading.{Reading}
-use Rattle.read_form.specs.declared.Read.{Read}
-use Rattle.read_form.specs.declared.Read.TheVariants.{Form as AForm, Refused}
-use Rattle.read_form.specs.Promise.{said, reading_of, LongestPrefix, ReadForm, too_long, bad_letter, not_form, form}
-use Rattle.answer.proofs.Told.{refusal_told, accepted_is_not_refused}
+use Rattle.read_form.specs.Promise.{reading_of, LongestPrefix, ReadForm, too_long, bad_letter, not_form, form}
+use Rattle.answer.proofs.Told.{said_told}
 
 -- the longest prefix has one length
 pub longest_prefix_once : {text : List ℕ} {m n : ℕ} → LongestPrefix text m → LongestPrefix text n → m ≡ n
@@ -47,16 +47,9 @@ read_form_said_once (form h f) (bad_letter k q) = absurd (passes_or_fails (form_
 read_form_said_once (form h f) (not_form k l n q) = absurd (n f)
 read_form_said_once (form h f) (form k g) = ap accepted (form_reads_once f g)
 
--- no two cases of the enum are said alike
-read_told : (r s : Read) → said r ≡ said s → r ≡ s
-read_told (AForm x) (AForm y) same = let readings : x ≡ y = cc in ap AForm readings
-read_told (AForm x) (Refused s) same = absurd (accepted_is_not_refused same)
-read_told (Refused r) (AForm y) same = absurd (accepted_is_not_refused (sym same))
-read_told (Refused r) (Refused s) same = ap Refused (refusal_told r s same)
-
 -- so the value that is returned is one
-pub read_form_returns_once : (text : List ℕ) (r s : Read) → ReadForm text (said r) → ReadForm text (said s) → r ≡ s
-read_form_returns_once text r s fits fits' = read_told r s (read_form_said_once fits fits')
+pub read_form_returns_once : (text : List ℕ) (r s : Result Reading Refusal) → ReadForm text (said r) → ReadForm text (said s) → r ≡ s
+read_form_returns_once text r s fits fits' = said_told r s (read_form_said_once fits fits')
 
 -- what is accepted is a form within the limit, read as it is
 pub record Accepted (text : List ℕ) (reading : Reading) : Type 0 where

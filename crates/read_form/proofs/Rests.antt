@@ -15,6 +15,7 @@ use Rattle.form.specs.Count.{t_count, h_count, begins_with_T}
 use Rattle.form.proofs.Count.{t_count_append, t_count_syllable, h_count_syllable, t_count_within, h_count_within}
 use Rattle.form.proofs.Grammar.{syllable_unique, syllable_is_no_tail, rest_begins_without_T}
 use Rattle.form.proofs.Prefix.{Rest}
+use Rattle.answer.specs.Written.{figures_of}
 use Rattle.read_form.proofs.Taking.{front_within, front_of_prefix, to_the_end}
 use Rattle.read_form.specs.declared.Reading.{Reading}
 use Rattle.read_form.specs.Promise.{reading_of}
@@ -33,13 +34,13 @@ no_front_form q none = rw none refl
 pub rest_fits :
     (Allowed : Parts → Type 0) (text : List ℕ) (k : ℕ) (r : Reading) → 0 < k → k ≤ L.length text →
     Longest Allowed (L.take (L.length text - k) (L.drop k text)) r →
-    (k + r.length ≤ L.length text) × (1 + r.tcount ≤ L.length text) × (1 + r.hcount ≤ L.length text)
-unfolding reading_of
+    (k + r.figures.length ≤ L.length text) × (1 + r.figures.tcount ≤ L.length text) × (1 + r.figures.hcount ≤ L.length text)
+unfolding reading_of figures_of
 rest_fits Allowed text k r some inside found =
     let part = ap L.length (to_the_end k text) ∙ L.length-drop k text in
-    let long = ap (λ (x : Reading). x.length) found.read in
-    let T_count = ap (λ (x : Reading). x.tcount) found.read in
-    let H_count = ap (λ (x : Reading). x.hcount) found.read in
+    let long = ap (λ (x : Reading). x.figures.length) found.read in
+    let T_count = ap (λ (x : Reading). x.figures.tcount) found.read in
+    let H_count = ap (λ (x : Reading). x.figures.hcount) found.read in
     let within = found.within in
     let no_more_T = t_count_within (form_text found.parts) in
     let no_more_syllables = h_count_within (form_text found.parts) in
@@ -50,7 +51,7 @@ module _
     (Allowed : Parts → Type 0) (text lead : List ℕ) (r answer : Reading) (begins : L.take (L.length lead) text ≡ lead)
     (rest : Longest NoFront (L.drop (L.length lead) text) r) (joined : Parts)
     (allowed : Allowed joined) (same_tail : joined.tail ≡ rest.parts.tail)
-    (joins : form_text joined ≡ lead ++ form_text rest.parts) (long : answer.length ≡ L.length lead + r.length)
+    (joins : form_text joined ≡ lead ++ form_text rest.parts) (long : answer.figures.length ≡ L.length lead + r.figures.length)
     (read : answer ≡ reading_of (form_text joined) joined.tail)
     (left : (q : Parts) (u : List ℕ) → Allowed q → q.tail < tails → lead ++ u ≡ form_text q → Rest u) where
   split_text : (j : ℕ) → L.take (L.length lead + j) text ≡ lead ++ L.take j (L.drop (L.length lead) text)
@@ -58,11 +59,11 @@ module _
 
   no_longer :
       (q : Parts) (n : ℕ) → Allowed q → q.tail < tails → n ≤ L.length text → L.take n text ≡ form_text q →
-      n ≤ answer.length
+      n ≤ answer.figures.length
   unfolding form_text front_text
   no_longer q n ok below inside same = split (dec_le (L.length lead) n)
     where
-      split : Dec (L.length lead ≤ n) → n ≤ answer.length
+      split : Dec (L.length lead ≤ n) → n ≤ answer.figures.length
       split (no short) = omega arith
       split (yes past) =
           let j : ℕ = n - L.length lead in
@@ -82,7 +83,7 @@ module _
         within = omega (arith, rest.within, front_within text lead begins, L.length-drop (L.length lead) text);
         spelled =
             ap (λ (k : ℕ). L.take k text) long
-            ∙ split_text r.length
+            ∙ split_text r.figures.length
             ∙ ap (λ (s : List ℕ). lead ++ s) rest.spelled
             ∙ sym joins;
         read = read;
@@ -94,7 +95,7 @@ module _
 tail_alone :
     (text : List ℕ) (r : Reading) → ((s : Syllable) → L.take (L.length (syllable_text s)) text ≡ syllable_text s → ⊥) →
     Longest OnlyTail text r → (ss : List Syllable) (m n : ℕ) → m < tails → n ≤ L.length text →
-    L.take n text ≡ syllables_text ss ++ tail_text m → n ≤ r.length
+    L.take n text ≡ syllables_text ss ++ tail_text m → n ≤ r.figures.length
 unfolding form_text front_text syllables_text
 tail_alone text r none tail [] m n below inside same = tail.longest (parts_of false [] m) n (refl, refl) below inside same
 tail_alone text r none tail (s ∷ ss) m n below inside same =
@@ -118,17 +119,20 @@ longest_without_syllable text k r empty syllable tail =
 -- a lead with one T, and the reading of the rest
 read_after :
     (lead u : List ℕ) (r : Reading) (tail h : ℕ) → r ≡ reading_of u tail → t_count lead ≡ 1 → h ≡ h_count (lead ++ u) →
-    record { length = L.length lead + r.length; tcount = 1 + r.tcount; hcount = h; tail = r.tail }
+    record { figures = record { length = L.length lead + r.figures.length; tcount = 1 + r.figures.tcount; hcount = h }; tail = r.tail }
     ≡ reading_of (lead ++ u) tail
-unfolding reading_of
+unfolding reading_of figures_of
 read_after lead u r tail h read one syllables =
-    λ i. record { length = lengths i; tcount = counts i; hcount = syllables i; tail = ap (λ (x : Reading). x.tail) read i }
+    λ i. record {
+      figures = record { length = lengths i; tcount = counts i; hcount = syllables i };
+      tail = ap (λ (x : Reading). x.tail) read i;
+    }
   where
-    lengths : L.length lead + r.length ≡ L.length (lead ++ u)
-    lengths = omega (arith, ap (λ (x : Reading). x.length) read, L.length-append lead u)
+    lengths : L.length lead + r.figures.length ≡ L.length (lead ++ u)
+    lengths = omega (arith, ap (λ (x : Reading). x.figures.length) read, L.length-append lead u)
 
-    counts : 1 + r.tcount ≡ t_count (lead ++ u)
-    counts = omega (arith, ap (λ (x : Reading). x.tcount) read, t_count_append lead u, one)
+    counts : 1 + r.figures.tcount ≡ t_count (lead ++ u)
+    counts = omega (arith, ap (λ (x : Reading). x.figures.tcount) read, t_count_append lead u, one)
 
 -- after a syllable
 
@@ -157,12 +161,12 @@ syllable_first :
     (text : List ℕ) (s : Syllable) (r : Reading) → L.take (L.length (syllable_text s)) text ≡ syllable_text s →
     Longest NoFront (L.drop (L.length (syllable_text s)) text) r →
     Longest NoFront text
-    (record { length = L.length (syllable_text s) + r.length; tcount = 1 + r.tcount; hcount = 1 + r.hcount; tail = r.tail })
-unfolding reading_of
+    (record { figures = record { length = L.length (syllable_text s) + r.figures.length; tcount = 1 + r.figures.tcount; hcount = 1 + r.figures.hcount }; tail = r.tail })
+unfolding reading_of figures_of
 syllable_first text s r begins rest =
     longest_after NoFront text (syllable_text s) r _ begins rest
     (parts_of false (s ∷ rest.parts.syllables) rest.parts.tail) refl refl joins refl
-    (read_after (syllable_text s) u r rest.parts.tail (1 + r.hcount) rest.read (t_count_syllable s) counts
+    (read_after (syllable_text s) u r rest.parts.tail (1 + r.figures.hcount) rest.read (t_count_syllable s) counts
     ∙ ap (λ (t : List ℕ). reading_of t rest.parts.tail) (sym joins))
     (λ q v none below same. rest_left_by_syllable s q.syllables q.tail v below (same ∙ no_front_form q none))
   where
@@ -172,12 +176,12 @@ syllable_first text s r begins rest =
     joins : form_text (parts_of false (s ∷ rest.parts.syllables) rest.parts.tail) ≡ syllable_text s ++ u
     joins = syllable_joins s rest.parts rest.allowed
 
-    counts : 1 + r.hcount ≡ h_count (syllable_text s ++ u)
-    counts = omega (arith, ap (λ (x : Reading). x.hcount) rest.read, h_count_syllable s u)
+    counts : 1 + r.figures.hcount ≡ h_count (syllable_text s ++ u)
+    counts = omega (arith, ap (λ (x : Reading). x.figures.hcount) rest.read, h_count_syllable s u)
 
 pub longest_after_syllable :
     (text : List ℕ) (k : ℕ) (r : Reading) → 0 < k → LeadingSyllable text k → Longest NoFront (L.drop k text) r →
-    Longest NoFront text (record { length = k + r.length; tcount = 1 + r.tcount; hcount = 1 + r.hcount; tail = r.tail })
+    Longest NoFront text (record { figures = record { length = k + r.figures.length; tcount = 1 + r.figures.tcount; hcount = 1 + r.figures.hcount }; tail = r.tail })
 longest_after_syllable text k r some syllable rest =
     let (s, long, begins) = syllable.whole some in
     rw (← long) (syllable_first text s r (rw (← long) at begins) (rw (← long) at rest))
@@ -199,12 +203,12 @@ front_joins p none = ap (λ (t : List ℕ). T ∷ t) (sym (no_front_form p none)
 
 pub longest_after_front :
     (text : List ℕ) (r : Reading) → L.take 1 text ≡ T ∷ [] → Longest NoFront (L.drop 1 text) r →
-    Longest Any text (record { length = 1 + r.length; tcount = 1 + r.tcount; hcount = r.hcount; tail = r.tail })
-unfolding reading_of form_text t_count h_count
+    Longest Any text (record { figures = record { length = 1 + r.figures.length; tcount = 1 + r.figures.tcount; hcount = r.figures.hcount }; tail = r.tail })
+unfolding reading_of figures_of form_text t_count h_count
 longest_after_front text r begins rest =
     longest_after Any text (T ∷ []) r _ begins rest (parts_of true rest.parts.syllables rest.parts.tail) tt refl joins refl
-    (read_after (T ∷ []) (form_text rest.parts) r rest.parts.tail r.hcount rest.read refl
-    (ap (λ (x : Reading). x.hcount) rest.read) ∙ ap (λ (t : List ℕ). reading_of t rest.parts.tail) (sym joins))
+    (read_after (T ∷ []) (form_text rest.parts) r rest.parts.tail r.figures.hcount rest.read refl
+    (ap (λ (x : Reading). x.figures.hcount) rest.read) ∙ ap (λ (t : List ℕ). reading_of t rest.parts.tail) (sym joins))
     (λ q v any below same. rest_left_by_front q.front q.syllables q.tail v below same)
   where
     joins : form_text (parts_of true rest.parts.syllables rest.parts.tail) ≡ T ∷ form_text rest.parts
@@ -213,7 +217,7 @@ longest_after_front text r begins rest =
 no_T_front :
     (text : List ℕ) (r : Reading) → (L.take 1 text ≡ T ∷ [] → ⊥) → Longest NoFront text r →
     (b : Bool) (ss : List Syllable) (m n : ℕ) → m < tails → n ≤ L.length text →
-    L.take n text ≡ form_text (parts_of b ss m) → n ≤ r.length
+    L.take n text ≡ form_text (parts_of b ss m) → n ≤ r.figures.length
 unfolding form_text front_text
 no_T_front text r none rest true ss m n below inside same = absurd (none (front_of_prefix text (T ∷ []) _ n same))
 no_T_front text r none rest false ss m n below inside same = rest.longest (parts_of false ss m) n refl below inside same

@@ -17,6 +17,7 @@ use Rattle.form.proofs.Count.{t_count_tail, h_count_tail}
 use Rattle.form.proofs.Grammar.{tail_number, tail_fields, tail_spelled}
 use Rattle.form.proofs.Prefix.{tail_prefix}
 use Rattle.form.proofs.Follow.{Follows, W_follows, S_follows, X_follows, H_follows, H_after_S, follows}
+use Rattle.answer.specs.Written.{figures_of}
 use Rattle.read_form.specs.Promise.{reading_of}
 use Rattle.read_form.specs.Part.{Run, Head, OnlyTail, Longest}
 
@@ -110,16 +111,16 @@ module _
           absurd
           (stopped byte (omega arith) refl (follows number byte prefix.number in_tails prefix.in_tails one_more))
 
-  reads : record { length = found; tcount = 0; hcount = 0; tail = number } ≡ reading_of (form_text (tail_parts number)) number
-  unfolding reading_of
+  reads : record { figures = record { length = found; tcount = 0; hcount = 0 }; tail = number } ≡ reading_of (form_text (tail_parts number)) number
+  unfolding reading_of figures_of
   reads =
       simp tail_form
-      (λ i. record { length = lengths i; tcount = sym (t_count_tail number) i; hcount = sym (h_count_tail number) i; tail = number })
+      (λ i. record { figures = record { length = lengths i; tcount = sym (t_count_tail number) i; hcount = sym (h_count_tail number) i }; tail = number })
     where
       lengths : found ≡ length (tail_text number)
       lengths = sym (length-take-le found text within) ∙ ap length spelled
 
-  pub longest_tail : Longest OnlyTail text (record { length = found; tcount = 0; hcount = 0; tail = number })
+  pub longest_tail : Longest OnlyTail text (record { figures = record { length = found; tcount = 0; hcount = 0 }; tail = number })
   longest_tail =
       record {
         parts = tail_parts number;

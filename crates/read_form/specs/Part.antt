@@ -1,15 +1,10 @@
 -- Document 01, "The form", part by part: what the form reader's own functions answer of a text's beginning.
-use Rattle.std.specs.Prelude.{ℕ, ◌<◌, ◌≤◌, Bool, true, false, List, [], ◌≡◌}
+use Rattle.std.specs.Prelude.{ℕ, ◌<◌, ◌≤◌, false, List, [], ◌≡◌}
 use Rattle.std.proofs.Math.ListN as L
 use Rattle.form.specs.Tail.{tails, head_text}
 use Rattle.form.specs.Form.{Syllable, Parts, syllable_text, form_text}
 use Rattle.read_form.specs.declared.Reading.{Reading}
 use Rattle.read_form.specs.Promise.{reading_of}
-
--- the text begins with these bytes, or does not
-abbrev pub Begins : List ℕ → List ℕ → Bool → Type 0
-Begins text front true = L.take (L.length front) text ≡ front
-Begins text front false = L.take (L.length front) text ≡ front → ⊥
 
 -- the text begins with n times the letter, n at most `most`, and with no more
 pub record Run (text : List ℕ) (letter most n : ℕ) : Type 0 where
@@ -46,9 +41,9 @@ pub record Longest (Allowed : Parts → Type 0) (text : List ℕ) (reading : Rea
   pub parts : Parts
   pub allowed : Allowed parts
   pub in_tails : parts.tail < tails
-  pub within : reading.length ≤ L.length text
-  pub spelled : L.take reading.length text ≡ form_text parts
+  pub within : reading.figures.length ≤ L.length text
+  pub spelled : L.take reading.figures.length text ≡ form_text parts
   pub read : reading ≡ reading_of (form_text parts) parts.tail
   pub longest :
       (q : Parts) (n : ℕ) → Allowed q → q.tail < tails → n ≤ L.length text → L.take n text ≡ form_text q →
-      n ≤ reading.length
+      n ≤ reading.figures.length

@@ -3,22 +3,15 @@ use Rattle.std.specs.Prelude.{ℕ, ◌<◌, ◌≤◌, List}
 use Rattle.std.proofs.Math.ListN as L
 use Rattle.matrix.specs.Letter.{Letters, FirstBad}
 use Rattle.form.specs.Form.{Form}
-use Rattle.form.specs.Count.{t_count, h_count}
 use Rattle.answer.specs.declared.Refusal.TheVariants.{BadLetter, TooLong, NotForm}
 use Rattle.answer.specs.Limits.{form_limit}
 use Rattle.answer.specs.Refusal.{Said, accepted, refusal}
+use Rattle.answer.specs.Written.{figures_of}
 use Rattle.read_form.specs.declared.Reading.{Reading}
-use Rattle.read_form.specs.declared.Read.{Read}
-use Rattle.read_form.specs.declared.Read.TheVariants.{Form as AForm, Refused}
-
--- the paper's number and values for each case of the enum
-abbrev pub said : Read → Said Reading
-said (AForm reading) = accepted reading
-said (Refused r) = refusal r
 
 -- "The form reader answers length, T-count, H-count and tail number."
 unfoldable pub reading_of : List ℕ → ℕ → Reading
-reading_of text tail = record { length = L.length text; tcount = t_count text; hcount = h_count text; tail = tail }
+reading_of text tail = record { figures = figures_of text; tail = tail }
 
 -- "length of the longest prefix that is a form"
 pub record LongestPrefix (text : List ℕ) (n : ℕ) : Type 0 where

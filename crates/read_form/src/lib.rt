@@ -1,60 +1,24 @@
 // The form reader: accepts exactly the texts that are forms, and answers their figures and tail number.
 #![tactic(auto)]
 
-ghost use Rattle.read_form.specs.Part.{Begins, Run, Head, LeadingSyllable, Any, NoFront, OnlyTail, Longest};
-ghost use Rattle.read_form.specs.Promise.{ReadForm, said};
+ghost use Rattle.answer.specs.Refusal.{said};
+ghost use Rattle.read_form.specs.Part.{Run, Head, LeadingSyllable, Any, NoFront, OnlyTail, Longest};
+ghost use Rattle.read_form.specs.Promise.{ReadForm};
 
-use answer::Refusal;
-use lists::Found;
+use answer::{Figures, Refusal};
 
 // What the form reader answers of a form.
 #[derive(Clone, Copy)]
 pub struct Reading {
-    pub length: usize,
-    pub tcount: usize,
-    pub hcount: usize,
+    pub figures: Figures,
     pub tail: usize,
-}
-
-// The answer of the form reader.
-#[derive(Clone, Copy)]
-pub enum Read {
-    Form(Reading),
-    Refused(Refusal),
-}
-
-// Whether a text begins with these bytes.
-fn begins(text: &[u8], front: &[u8]) -> bool
-    ensures { Begins text.now front.now result }
-{
-    if text.len() < front.len() {
-        return false;
-    }
-    let mut i = 0;
-    while i < front.len() {
-        if text[i] != front[i] {
-            return false;
-        }
-        i += 1;
-    }
-    true
 }
 
 // How often a letter stands at the beginning of a text, counted up to `most`.
 fn run_length(text: &[u8], letter: u8, most: usize) -> usize
     ensures { Run text.now letter most result }
 {
-    let mut n = 0;
-    while n < most {
-        if text.len() <= n {
-            return n;
-        }
-        if text[n] != letter {
-            return n;
-        }
-        n += 1;
-    }
-    n
+    text.iter().take(most).take_while(|b| **b == letter).count()
 }
 
 // The length of a tail's head: nothing, H or SH.
@@ -62,9 +26,9 @@ fn run_length(text: &[u8], letter: u8, most: usize) -> usize
 fn head_length(text: &[u8]) -> usize
     ensures { Head text.now result }
 {
-    if begins(text, b"SH") {
+    if text.starts_with(b"SH") {
         2
-    } else if begins(text, b"H") {
+    } else if text.starts_with(b"H") {
         1
     } else {
         0
@@ -76,9 +40,9 @@ fn head_length(text: &[u8]) -> usize
 fn syllable_length(text: &[u8]) -> usize
     ensures { LeadingSyllable text.now result }
 {
-    if begins(text, b"HT") {
+    if text.starts_with(b"HT") {
         2
-    } else if begins(text, b"SHT") {
+    } else if text.starts_with(b"SHT") {
         3
     } else {
         0
@@ -97,9 +61,11 @@ fn longest_tail(text: &[u8]) -> Reading
     let after_s = after_x + c;
     let a = run_length(&text[after_s..], b'W', 7);
     Reading {
-        length: after_s + a,
-        tcount: 0,
-        hcount: 0,
+        figures: Figures {
+            length: after_s + a,
+            tcount: 0,
+            hcount: 0,
+        },
         tail: 64 * h + 32 * b + 8 * c + a,
     }
 }
@@ -114,9 +80,11 @@ fn longest_rest(text: &[u8]) -> Reading
     }
     let rest = longest_rest(&text[k..]);
     Reading {
-        length: k + rest.length,
-        tcount: 1 + rest.tcount,
-        hcount: 1 + rest.hcount,
+        figures: Figures {
+            length: k + rest.figures.length,
+            tcount: 1 + rest.figures.tcount,
+            hcount: 1 + rest.figures.hcount,
+        },
         tail: rest.tail,
     }
 }
@@ -125,12 +93,14 @@ fn longest_rest(text: &[u8]) -> Reading
 fn longest_form(text: &[u8]) -> Reading
     ensures { Longest Any text.now result }
 {
-    if begins(text, b"T") {
+    if text.starts_with(b"T") {
         let rest = longest_rest(&text[1..]);
         Reading {
-            length: 1 + rest.length,
-            tcount: 1 + rest.tcount,
-            hcount: rest.hcount,
+            figures: Figures {
+                length: 1 + rest.figures.length,
+                tcount: 1 + rest.figures.tcount,
+                hcount: rest.figures.hcount,
+            },
             tail: rest.tail,
         }
     } else {
@@ -140,25 +110,23 @@ fn longest_form(text: &[u8]) -> Reading
 
 // Reads a text claimed to be a form: refused 2, 1 or 7, in this order, or answered with its figures and tail number.
 #[tactic(auto, using(crate::specs::Promise::too_long, crate::specs::Promise::bad_letter, crate::proofs::Answer::whole_text_is_form, crate::proofs::Answer::shorter_is_refused))]
-pub fn read_form(text: &[u8]) -> Read
+pub fn read_form(text: &[u8]) -> Result<Reading, Refusal>
     ensures { ReadForm text.now (said result) }
 {
     if answer::FORM_LIMIT < text.len() {
-        return Read::Refused(Refusal::TooLong {
+        return Err(Refusal::TooLong {
             limit: answer::FORM_LIMIT,
         });
     }
-    match alphabet::first_bad(text) {
-        Found::First(place) => Read::Refused(Refusal::BadLetter { place }),
-        Found::Absent => {
-            let found = longest_form(text);
-            if found.length == text.len() {
-                Read::Form(found)
-            } else {
-                Read::Refused(Refusal::NotForm {
-                    prefix: found.length,
-                })
-            }
-        }
+    if let Some(place) = alphabet::first_bad(text) {
+        return Err(Refusal::BadLetter { place });
+    }
+    let found = longest_form(text);
+    if found.figures.length == text.len() {
+        Ok(found)
+    } else {
+        Err(Refusal::NotForm {
+            prefix: found.figures.length,
+        })
     }
 }
