@@ -1,20 +1,16 @@
 -- Two answers, and two buffers, that fit one promise are equal: of the frame reader and of the frame writer.
 -- Assumes nothing.
-use Rattle.std.proofs.Common.{◌≡◌, ℕ, List, sym, refl, ap, ◌∙◌, subst, arith}
+use Rattle.std.proofs.Common.{◌≡◌, ℕ, List, Result, sym, refl, ap, ◌∙◌, subst, arith}
 use Rattle.lists.proofs.List.{passes_or_fails, fails_once}
 use Rattle.matrix.specs.declared.Matrix.{Matrix}
 use Rattle.answer.specs.declared.Refusal.{Refusal}
 use Rattle.answer.specs.declared.Refusal.TheVariants.{BadFrame}
-use Rattle.answer.specs.declared.Returned.{Returned}
-use Rattle.answer.specs.Refusal.{Said, accepted, refusal}
-use Rattle.answer.specs.Returned.{said}
-use Rattle.answer.proofs.Told.{refusal_told, accepted_is_not_refused, returned_told}
+use Rattle.answer.specs.Refusal.{Said, accepted, refusal, said}
+use Rattle.answer.proofs.Told.{said_told}
 use Rattle.accept_record.specs.Accept.{RefusedRecord}
 use Rattle.accept_record.proofs.Judged.{refused_once, accepted_not_refused}
-use Rattle.frame.specs.declared.Stored.{Stored}
-use Rattle.frame.specs.declared.Stored.TheVariants.{Frame, Refused}
 use Rattle.frame.specs.Frame.{check_word, Spells}
-use Rattle.frame.specs.Calls.{said_stored, IsBadFrame, short, long, bad_digit, RefusedFrame, bad_frame, bad_check_word, bad_record, AcceptedFrame, FrameToMatrix, refused_frame, accepted_frame, MatrixToFrame, refused_record, no_room, framed}
+use Rattle.frame.specs.Calls.{IsBadFrame, short, long, bad_digit, RefusedFrame, bad_frame, bad_check_word, bad_record, AcceptedFrame, FrameToMatrix, refused_frame, accepted_frame, MatrixToFrame, refused_record, no_room, framed}
 use Rattle.frame.proofs.Spelled.{spells_length, spells_digits, spells_once}
 
 -- ---- refusal 9
@@ -68,8 +64,8 @@ frame_to_matrix_said_once (accepted_frame a) (refused_frame s) = absurd (accepte
 frame_to_matrix_said_once (accepted_frame a) (accepted_frame b) = ap accepted (spells_once a.spells b.spells).0
 
 -- so the value that is returned is one
-pub frame_to_matrix_returns_once : {text : List ℕ} (a b : Returned) → FrameToMatrix text (said a) → FrameToMatrix text (said b) → a ≡ b
-frame_to_matrix_returns_once a b p q = returned_told a b (frame_to_matrix_said_once p q)
+pub frame_to_matrix_returns_once : {text : List ℕ} (a b : Result Matrix Refusal) → FrameToMatrix text (said a) → FrameToMatrix text (said b) → a ≡ b
+frame_to_matrix_returns_once a b p q = said_told a b (frame_to_matrix_said_once p q)
 
 -- ---- matrix to frame
 -- two answers of the frame writer that fit its promise are equal, and so are the buffers
@@ -86,14 +82,8 @@ matrix_to_frame_said_once (framed a h) (refused_record q) = absurd (accepted_not
 matrix_to_frame_said_once (framed a h) (no_room b k) = absurd (omega arith)
 matrix_to_frame_said_once (framed a h) (framed b k) = (refl, refl)
 
--- no two cases of the enum are said alike, so the value that is returned is one
-stored_told : (a b : Stored) → said_stored a ≡ said_stored b → a ≡ b
-stored_told Frame Frame same = refl
-stored_told Frame (Refused s) same = absurd (accepted_is_not_refused same)
-stored_told (Refused r) Frame same = absurd (accepted_is_not_refused (sym same))
-stored_told (Refused r) (Refused s) same = ap Refused (refusal_told r s same)
-
+-- so the value that is returned is one
 pub matrix_to_frame_returns_once :
-    {m : Matrix} {before s t : List ℕ} (a b : Stored) → MatrixToFrame m before (said_stored a) s → MatrixToFrame m before (said_stored b) t →
+    {m : Matrix} {before s t : List ℕ} (a b : Result (Unit {0}) Refusal) → MatrixToFrame m before (said a) s → MatrixToFrame m before (said b) t →
     (a ≡ b) × (s ≡ t)
-matrix_to_frame_returns_once a b p q = let once = matrix_to_frame_said_once p q in (stored_told a b once.0, once.1)
+matrix_to_frame_returns_once a b p q = let once = matrix_to_frame_said_once p q in (said_told a b once.0, once.1)

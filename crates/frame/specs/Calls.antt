@@ -7,15 +7,8 @@ use Rattle.answer.specs.Limits.{frame_length}
 use Rattle.answer.specs.Refusal.{Said, accepted, refusal}
 use Rattle.answer.specs.Written.{put}
 use Rattle.accept_record.specs.Accept.{AcceptedRecord, RefusedRecord}
-use Rattle.frame.specs.declared.Stored.{Stored}
-use Rattle.frame.specs.declared.Stored.TheVariants.{Frame, Refused}
 use Rattle.frame.specs.Digit.{FirstBadDigit}
 use Rattle.frame.specs.Frame.{Spells, check_word, frame_text}
-
--- the paper's number for each case of the enum; the frame writer's answer has no values
-abbrev pub said_stored : Stored → Said (Unit {0})
-said_stored Frame = accepted tt
-said_stored (Refused r) = refusal r
 
 -- refusal 9: "length if short, 138 if long, else first bad digit"
 pub data IsBadFrame (text : List ℕ) : ℕ → Type 0 where

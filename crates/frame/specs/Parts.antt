@@ -2,15 +2,8 @@
 use Rattle.std.specs.Prelude.{◌≡◌, ℕ, ◌^◌, ◌<◌, List, ◌++◌, length, ℤ}
 use Rattle.matrix.specs.declared.Matrix.{Matrix}
 use Rattle.coefficients.specs.Coefficients.{coefficients}
-use Rattle.frame.specs.Digit.{digits, Digits, FirstBadDigit}
+use Rattle.frame.specs.Digit.{digits}
 use Rattle.frame.specs.Frame.{word, words, words_text, InWord, InWords}
-use Rattle.frame.specs.declared.Found.{Found}
-use Rattle.frame.specs.declared.Found.TheVariants.{Bad, Nothing}
-
--- "first bad digit", or nothing where every byte is a digit
-abbrev pub Finds : List ℕ → Found → Type 0
-Finds text (Bad p) = FirstBadDigit text p
-Finds text Nothing = Digits text
 
 -- a text is a number in as many digits
 pub record Spelled (text : List ℕ) (n : ℕ) : Type 0 where

@@ -7,27 +7,14 @@ ghost use Rattle.answer.specs.Written.{put};
 ghost use Rattle.coefficients.specs.Coefficients.{coefficients};
 ghost use Rattle.frame.specs.Digit.{digit, is_digit, digits, Digits};
 ghost use Rattle.frame.specs.Frame.{word, words, words_text, check_word, frame_text, InWord, InWords};
-ghost use Rattle.answer.specs.Returned.{said};
-ghost use Rattle.frame.specs.Calls.{said_stored, FrameToMatrix, MatrixToFrame};
-ghost use Rattle.frame.specs.Parts.{Finds, Spelled, Coefficient, Coefficients, RecordText};
+ghost use Rattle.answer.specs.Refusal.{said};
+ghost use Rattle.lists.specs.Found.{Finds};
+ghost use Rattle.frame.specs.Calls.{FrameToMatrix, MatrixToFrame};
+ghost use Rattle.frame.specs.Parts.{Spelled, Coefficient, Coefficients, RecordText};
 
 use accept_record::Judgement;
-use answer::{CHECK_WORD_PLACE, FRAME_LENGTH, Refusal, Returned};
+use answer::{CHECK_WORD_PLACE, FRAME_LENGTH, Refusal};
 use matrix::Matrix;
-
-// What the frame writer answers.
-#[derive(Clone, Copy)]
-pub enum Stored {
-    Frame,
-    Refused(Refusal),
-}
-
-// What a search for a bad digit finds.
-#[derive(Clone, Copy)]
-enum Found {
-    Bad(usize),
-    Nothing,
-}
 
 // 0-9 and a-f.
 #[tactic(auto, using(crate::proofs::Digits::low_digit, crate::proofs::Digits::high_digit, crate::proofs::Digits::below_digits, crate::proofs::Digits::between_digits, crate::proofs::Digits::above_digits))]
@@ -87,20 +74,13 @@ fn are_digits(text: &[u8]) -> bool
 }
 
 // The first place of a byte that is no digit.
-fn first_bad_digit(text: &[u8]) -> Found
-    ensures { Finds text.now result }
+fn first_bad_digit(text: &[u8]) -> Option<usize>
+    ensures { Finds is_digit text.now result }
 {
     if are_digits(text) {
-        return Found::Nothing;
+        return None;
     }
-    let mut i = 0;
-    while i < text.len() {
-        if !is_digit(text[i]) {
-            return Found::Bad(i);
-        }
-        i += 1;
-    }
-    Found::Nothing
+    text.iter().position(|b| !is_digit(*b))
 }
 
 // The number that up to eight digits stand for.
@@ -214,7 +194,7 @@ fn read_record(text: &[u8]) -> Matrix
 }
 
 // A frame of 138 digits: its check word, and then its record.
-fn read_digits(text: &[u8]) -> Returned
+fn read_digits(text: &[u8]) -> Result<Matrix, Refusal>
     requires digits { Digits text.now }
     requires text_len { length text.now ≡ frame_length }
     ensures { FrameToMatrix text.now (said result) }
@@ -222,30 +202,30 @@ fn read_digits(text: &[u8]) -> Returned
     let m = read_record(&text[..CHECK_WORD_PLACE]);
     let check = number(&text[CHECK_WORD_PLACE..]);
     if check != check_word(m) {
-        return Returned::Refused(Refusal::BadCheckWord);
+        return Err(Refusal::BadCheckWord);
     }
     match accept_record::judge(m) {
-        Judgement::Accepted => Returned::Record(m),
-        Judgement::Refused(refusal) => Returned::Refused(refusal),
+        Judgement::Accepted => Ok(m),
+        Judgement::Refused(refusal) => Err(refusal),
     }
 }
 
 // Frame to matrix.
 #[tactic(auto, using(crate::proofs::Refused::short_frame, crate::proofs::Refused::long_frame))]
-pub fn frame_to_matrix(text: &[u8]) -> Returned
+pub fn frame_to_matrix(text: &[u8]) -> Result<Matrix, Refusal>
     ensures { FrameToMatrix text.now (said result) }
 {
     if text.len() < FRAME_LENGTH {
-        return Returned::Refused(Refusal::BadFrame { place: text.len() });
+        return Err(Refusal::BadFrame { place: text.len() });
     }
     if FRAME_LENGTH < text.len() {
-        return Returned::Refused(Refusal::BadFrame {
+        return Err(Refusal::BadFrame {
             place: FRAME_LENGTH,
         });
     }
     match first_bad_digit(text) {
-        Found::Bad(place) => Returned::Refused(Refusal::BadFrame { place }),
-        Found::Nothing => read_digits(text),
+        Some(place) => Err(Refusal::BadFrame { place }),
+        None => read_digits(text),
     }
 }
 
@@ -265,19 +245,19 @@ fn write_digits(buffer: &mut [u8], m: Matrix)
 
 // Matrix to frame.
 #[tactic(auto, using(crate::proofs::Refused::short_buffer, crate::proofs::Refused::long_buffer))]
-pub fn matrix_to_frame(m: Matrix, buffer: &mut [u8]) -> Stored
-    ensures { MatrixToFrame m buffer.old (said_stored result) buffer.new }
+pub fn matrix_to_frame(m: Matrix, buffer: &mut [u8]) -> Result<(), Refusal>
+    ensures { MatrixToFrame m buffer.old (said result) buffer.new }
 {
     match accept_record::judge(m) {
-        Judgement::Refused(refusal) => Stored::Refused(refusal),
+        Judgement::Refused(refusal) => Err(refusal),
         Judgement::Accepted => {
             if buffer.len() < FRAME_LENGTH {
-                return Stored::Refused(Refusal::NoRoom {
+                return Err(Refusal::NoRoom {
                     needed: FRAME_LENGTH,
                 });
             }
             write_digits(buffer, m);
-            Stored::Frame
+            Ok(())
         }
     }
 }

@@ -4,7 +4,7 @@ use Rattle.frame.specs.Calls.{bad_digit, bad_frame, refused_frame}
 use Rattle.frame.proofs.frame_to_matrix.Goals as goal
 
 pub read_digits-requires : goal.read_digits-requires
-read_digits-requires c = record { digits = c.in-Nothing.ensures; text_len = omega arith }
+read_digits-requires c = record { digits = c.in-None.ensures; text_len = omega arith }
 
-pub returns-in-Bad : goal.returns-in-Bad
-returns-in-Bad c = refused_frame (bad_frame (bad_digit (omega arith) c.in-Bad.ensures))
+pub returns-in-Some : goal.returns-in-Some
+returns-in-Some c = refused_frame (bad_frame (bad_digit (omega arith) c.in-Some.ensures))
