@@ -2,12 +2,11 @@
 -- Assumes nothing.
 use mathlib.Core.Path.{◌≡◌, refl, ap}
 use native.Mathlib.Omega.{arith}
+use Rattle.std.specs.Prelude.{Result, Ok, Err}
 use Rattle.lists.proofs.List.{passes_or_fails, fails_once}
 use Rattle.matrix.specs.declared.Matrix.{Matrix}
 use Rattle.answer.specs.declared.Refusal.{Refusal}
 use Rattle.answer.specs.declared.Refusal.TheVariants.{WideCoefficient}
-use Rattle.accept_record.specs.declared.Judgement.{Judgement}
-use Rattle.accept_record.specs.declared.Judgement.TheVariants.{Accepted, Refused}
 use Rattle.accept_record.specs.Accept.{AcceptedRecord, RefusedRecord, high_exponent, wide_coefficient, not_unitary, Judged}
 
 -- a record is refused in one way at most
@@ -29,9 +28,8 @@ accepted_not_refused a (wide_coefficient h w) = passes_or_fails a.inside.coeffic
 accepted_not_refused a (not_unitary i u) = u a.unitary
 
 -- two judgements of one record are equal
-pub judged_once : (m : Matrix) (a b : Judgement) → Judged m a → Judged m b → a ≡ b
-unfolding Judged
-judged_once m Accepted Accepted p q = refl
-judged_once m Accepted (Refused r) p q = absurd (accepted_not_refused p q)
-judged_once m (Refused r) Accepted p q = absurd (accepted_not_refused q p)
-judged_once m (Refused r) (Refused s) p q = ap Refused (refused_once p q)
+pub judged_once : (m : Matrix) (a b : Result (Unit {0}) Refusal) → Judged m a → Judged m b → a ≡ b
+judged_once m (Ok x) (Ok y) p q = refl
+judged_once m (Ok accepted) (Err r) p q = absurd (accepted_not_refused p q)
+judged_once m (Err r) (Ok accepted) p q = absurd (accepted_not_refused q p)
+judged_once m (Err r) (Err s) p q = ap Err (refused_once p q)

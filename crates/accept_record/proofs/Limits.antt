@@ -1,19 +1,15 @@
 -- The limits on coefficients: what the test says, and what a search for a wide one tells. Assumes nothing.
 use mathlib.Core.Path.{◌≡◌, refl, sym, ◌∙◌, ap}
 use mathlib.Core.Bool.{Bool, true, false, not, ◌&&◌, false≢true}
-use mathlib.Core.List.{List}
-use Prim.Native.Nat.{ℕ, ◌≤◌, ◌<◌}
+use Prim.Native.Nat.{ℕ}
 use native.Mathlib.Omega.{arith}
 use borrow.Author.Tests.{leb-true, leb-false, le-ltb, lt-ltb}
 use lib.Dec.{leb, ltb}
 use lib.IntN.{ℤ, pos, negsuc, neg_ℤ}
-use lib.ListN.{length}
 use lib.Signed.{lt_z, le_z}
-use Rattle.lists.proofs.List.{fails_within}
 use Rattle.ring.specs.Bounds.{Bounded}
 use Rattle.answer.specs.Limits.{coefficient_limit}
-use Rattle.accept_record.specs.Accept.{in_limit, InLimits, FirstWide}
-use Rattle.accept_record.specs.Wide.{Search, wide, all_inside}
+use Rattle.accept_record.specs.Accept.{in_limit}
 
 -- ---- the test
 not_below : (a b : ℕ) → leb a b ≡ not (ltb b a)
@@ -51,12 +47,3 @@ pub bounded_in_limit : (z : ℤ) → in_limit z ≡ true → Bounded coefficient
 unfolding in_limit
 bounded_in_limit (pos n) e = record { size = leb-true n coefficient_limit (and_right true _ e) }
 bounded_in_limit (negsuc n) e = record { size = omega (arith, leb-true n _ (and_left _ true e)) }
-
--- ---- what a search gives
-pub wide_found : {list : List ℤ} {index : ℕ} → Search list index → index < length list → FirstWide list index
-wide_found (wide found) h = found
-wide_found (all_inside inside) h = absurd (omega arith)
-
-pub none_wide : {list : List ℤ} {index : ℕ} → Search list index → length list ≤ index → InLimits list
-none_wide (wide found) h = absurd (omega (arith, fails_within found))
-none_wide (all_inside inside) h = inside

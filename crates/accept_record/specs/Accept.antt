@@ -1,5 +1,5 @@
 -- Document 01, "Limits" and "Refusals": which matrix records are accepted, and the refusals 4, 5, 6 in their order.
-use Rattle.std.specs.Prelude.{ℕ, ◌<◌, ◌≤◌, List, Bool, ◌&&◌, ℤ, pos, neg_ℤ}
+use Rattle.std.specs.Prelude.{ℕ, ◌<◌, ◌≤◌, List, Bool, ◌&&◌, ℤ, pos, neg_ℤ, Result, Ok, Err}
 use Rattle.std.specs.Int.Signed.{le_z}
 use Rattle.lists.specs.List.{AllPass, FirstFailing}
 use Rattle.matrix.specs.declared.Matrix.{Matrix}
@@ -8,8 +8,6 @@ use Rattle.coefficients.specs.Coefficients.{coefficients}
 use Rattle.answer.specs.declared.Refusal.{Refusal}
 use Rattle.answer.specs.declared.Refusal.TheVariants.{HighExponent, WideCoefficient, NotUnitary}
 use Rattle.answer.specs.Limits.{exponent_limit, coefficient_limit}
-use Rattle.accept_record.specs.declared.Judgement.{Judgement}
-use Rattle.accept_record.specs.declared.Judgement.TheVariants.{Accepted, Refused}
 
 -- "each coefficient from −1,048,576 to 1,048,576"
 unfoldable pub in_limit : ℤ → Bool
@@ -40,6 +38,6 @@ pub data RefusedRecord (m : Matrix) : Refusal → Type 0 where
   not_unitary : Inside m → (Unitary m → ⊥) → RefusedRecord m NotUnitary
 
 -- what is judged of a record
-unfoldable pub Judged : Matrix → Judgement → Type 0
-Judged m Accepted = AcceptedRecord m
-Judged m (Refused r) = RefusedRecord m r
+abbrev pub Judged : Matrix → Result (Unit {0}) Refusal → Type 0
+Judged m (Ok accepted) = AcceptedRecord m
+Judged m (Err refusal) = RefusedRecord m refusal

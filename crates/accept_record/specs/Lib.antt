@@ -1,3 +1,2 @@
 pub mod Accept
-pub mod Wide
 pub mod Column

@@ -6,42 +6,27 @@ ghost use Rattle.ring.specs.Element.{nothing};
 ghost use Rattle.ring.specs.Bounds.{Small};
 ghost use Rattle.matrix.specs.Matrix.{Unitary, column_product};
 ghost use Rattle.answer.specs.Limits.{exponent_limit, coefficient_limit};
+ghost use Rattle.lists.specs.Found.{Finds};
 ghost use Rattle.accept_record.specs.Accept.{in_limit, Inside, Judged};
-ghost use Rattle.accept_record.specs.Wide.{Search};
 ghost use Rattle.accept_record.specs.Column.{UnitColumn};
 
 use answer::{COEFFICIENT_LIMIT, EXPONENT_LIMIT, Refusal};
 use matrix::{Matrix, Row};
 use ring::Element;
 
-// What is judged of a record.
-#[derive(Clone, Copy)]
-pub enum Judgement {
-    Accepted,
-    Refused(Refusal),
-}
-
+// Whether a coefficient is inside its limit.
+#[tactic(auto, unfolding(crate::specs::Accept::in_limit))]
 fn in_limit(n: i64) -> bool
     ensures { result ≡ in_limit n }
 {
-    if n < -COEFFICIENT_LIMIT {
-        return false;
-    }
-    n <= COEFFICIENT_LIMIT
+    (-COEFFICIENT_LIMIT..=COEFFICIENT_LIMIT).contains(&n)
 }
 
-// The index of the first coefficient beyond its limit, or how many there are.
-fn first_wide(list: &[i64]) -> usize
-    ensures { Search list.now result }
+// The index of the first coefficient beyond its limit.
+fn first_wide(list: &[i64]) -> Option<usize>
+    ensures { Finds in_limit list.now result }
 {
-    let mut i = 0;
-    while i < list.len() {
-        if !in_limit(list[i]) {
-            return i;
-        }
-        i += 1;
-    }
-    i
+    list.iter().position(|n| !in_limit(*n))
 }
 
 // 2^k
@@ -110,21 +95,18 @@ fn is_unitary(m: Matrix) -> bool
 }
 
 // The limits in their order, and then the test for unitary.
-#[tactic(auto, using(crate::specs::Accept::high_exponent), unfolding(crate::specs::Accept::Judged))]
-pub fn judge(m: Matrix) -> Judgement
+#[tactic(auto, using(crate::specs::Accept::high_exponent))]
+pub fn judge(m: Matrix) -> Result<(), Refusal>
     ensures { Judged m result }
 {
     if EXPONENT_LIMIT < m.exponent {
-        return Judgement::Refused(Refusal::HighExponent);
+        return Err(Refusal::HighExponent);
     }
-    let list = coefficients::coefficients(m);
-    let index = first_wide(&list);
-    if index < list.len() {
-        return Judgement::Refused(Refusal::WideCoefficient { index });
+    if let Some(index) = first_wide(&coefficients::coefficients(m)) {
+        return Err(Refusal::WideCoefficient { index });
     }
-    if is_unitary(m) {
-        Judgement::Accepted
-    } else {
-        Judgement::Refused(Refusal::NotUnitary)
+    if !is_unitary(m) {
+        return Err(Refusal::NotUnitary);
     }
+    Ok(())
 }
