@@ -2,10 +2,10 @@
 use Rattle.std.specs.Prelude.{ℕ, ◌≤◌, List, Result, Ok, Err}
 use Rattle.form.specs.Form.{FormOf}
 use Rattle.alphabet.specs.String.{AcceptedString, RefusedString}
+use Rattle.answer.specs.declared.Refusal.{Refusal}
 use Rattle.answer.specs.Limits.{string_limit}
 use Rattle.stack.specs.declared.State.{State}
 use Rattle.stack.specs.State.{state_text, WellFormed}
-use Rattle.answer.specs.declared.Refusal.{Refusal}
 
 -- an accepted string, and the stack and state that spell its form
 pub record HeldForm (text stack : List ℕ) (state : State) : Type 0 where

@@ -27,6 +27,7 @@ pub fn normalise(products: &[u8; 1152], stack: &mut [u8], text: &[u8]) -> Result
         let limit = STRING_LIMIT;
         return Err(Refusal::TooLong { limit });
     }
-    extend_form::by_text(products, stack, extend_form::fresh(), text)
-        .map_err(|place| Refusal::BadLetter { place })
+    extend_form::by_text(products, stack, extend_form::fresh(), text).map_err(
+        |place| Refusal::BadLetter { place },
+    )
 }

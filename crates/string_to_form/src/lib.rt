@@ -1,21 +1,17 @@
 // String to form.
 #![tactic(auto)]
 
-ghost use Rattle.answer.specs.Written.{said};
+ghost use Rattle.answer.specs.Refusal.{said};
 ghost use Rattle.string_to_form.specs.Promise.{StringToForm};
 
-use answer::Written;
-use normalise::Normalised;
+use answer::{Figures, Refusal};
 
 // The form is normalised on the stack first, so a short buffer is known before the first write.
-pub fn string_to_form(text: &[u8], buffer: &mut [u8]) -> Written
+pub fn string_to_form(text: &[u8], buffer: &mut [u8]) -> Result<Figures, Refusal>
     ensures { StringToForm text.now buffer.old (said result) buffer.new }
 {
     let products = tail::products();
     let mut stack = normalise::empty_stack();
-    let normalised = normalise::normalise(&products, &mut stack, text);
-    match normalised {
-        Normalised::Refused(refusal) => Written::Refused(refusal),
-        Normalised::Form(state) => write_form::write_form(&stack, state, buffer),
-    }
+    let state = normalise::normalise(&products, &mut stack, text)?;
+    write_form::write_form(&stack, state, buffer)
 }

@@ -5,11 +5,12 @@ ghost use Rattle.std.specs.Prelude.{◌+◌, ◌*◌, ◌≤◌, ◌<◌, ◌^�
 ghost use Rattle.matrix.specs.Letter.{T};
 ghost use Rattle.form.specs.Tail.{tails, head_text, tail_text};
 ghost use Rattle.form.specs.Count.{h_count};
-ghost use Rattle.answer.specs.Written.{said, PutForm};
+ghost use Rattle.answer.specs.Refusal.{said};
+ghost use Rattle.answer.specs.Written.{PutForm};
 ghost use Rattle.stack.specs.State.{Codes, codes_text, used, state_text, WellFormed};
 ghost use Rattle.place.specs.Place.{Placed};
 
-use answer::{Figures, Refusal, Written};
+use answer::{Figures, Refusal};
 use stack::State;
 
 // A code's text is as long as the code's number, and T.
@@ -102,21 +103,20 @@ fn write_tail(buffer: &mut [u8], place: usize, tail: u8) -> usize
 }
 
 // The form that a stack and a state spell, written into a lent buffer where it has room.
-pub fn write_form(stack: &[u8], state: State, buffer: &mut [u8]) -> Written
+pub fn write_form(stack: &[u8], state: State, buffer: &mut [u8]) -> Result<Figures, Refusal>
     requires well_formed { WellFormed stack.now state }
     requires count_bound { 3 * state.count + 13 < 2 ^ 64 }
     ensures { PutForm (state_text stack.now state) buffer.old (said result) buffer.new }
 {
     let length = codes_length(stack, state.count) + tail_length(state.tail);
     if buffer.len() < length {
-        return Written::Refused(Refusal::NoRoom { needed: length });
+        return Err(Refusal::NoRoom { needed: length });
     }
     let place = write_codes(buffer, stack, state.count);
     write_tail(buffer, place, state.tail);
-    let figures = Figures {
+    Ok(Figures {
         length,
         tcount: state.count,
         hcount: syllables(stack, state),
-    };
-    Written::Form(figures)
+    })
 }
