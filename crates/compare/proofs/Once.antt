@@ -3,6 +3,7 @@
 -- exactly when no power of ω brings B to A. Assumes nothing.
 use Prim.Native.Nat.{ℕ, ◌≤◌}
 use mathlib.Core.List.{List}
+use Rattle.std.specs.Prelude.{Result, Ok, Err}
 use mathlib.Core.Logic.{◌↔◌}
 use mathlib.Core.Path.{◌≡◌, ap, ap₂, subst}
 use Rattle.matrix.specs.Matrix.{Same}
@@ -14,8 +15,9 @@ use Rattle.alphabet.specs.String.{AcceptedString}
 use Rattle.alphabet.proofs.String.{string_refused_once, string_refused_or_accepted}
 use Rattle.compare.specs.declared.Which.{Which}
 use Rattle.compare.specs.declared.Which.TheVariants.{First, Second}
-use Rattle.compare.specs.declared.Compared.{Compared}
-use Rattle.compare.specs.declared.Compared.TheVariants.{Same as SameAnswer, Phase, Different, Refused}
+use Rattle.compare.specs.declared.Relation.{Relation}
+use Rattle.compare.specs.declared.Relation.TheVariants.{Same as SameAnswer, Phase, Different}
+use Rattle.compare.specs.declared.Refused.{Refused}
 use Rattle.compare.specs.Promise.{Verdict, same, phase, different, refused, verdict, PhaseApart, Related, equal, apart, unlike, Compare, first_refused, second_refused, compared}
 use Rattle.compare.proofs.Related.{related_once, related_back, back}
 
@@ -37,30 +39,31 @@ compare_said_once (compared a b r) (second_refused a' s) = absurd (string_refuse
 compare_said_once (compared a b r) (compared a' b' s) = related_once b.letters r s
 
 -- no two answers are said alike
-verdict_known : (r s : Compared) → verdict r ≡ verdict s → r ≡ s
-verdict_known SameAnswer SameAnswer e = cc
-verdict_known SameAnswer (Phase j) e = cc
-verdict_known SameAnswer Different e = cc
-verdict_known SameAnswer (Refused which' s) e = cc
-verdict_known (Phase i) SameAnswer e = cc
-verdict_known (Phase i) (Phase j) e = cc
-verdict_known (Phase i) Different e = cc
-verdict_known (Phase i) (Refused which' s) e = cc
-verdict_known Different SameAnswer e = cc
-verdict_known Different (Phase j) e = cc
-verdict_known Different Different e = cc
-verdict_known Different (Refused which' s) e = cc
-verdict_known (Refused which r) SameAnswer e = cc
-verdict_known (Refused which r) (Phase j) e = cc
-verdict_known (Refused which r) Different e = cc
-verdict_known (Refused which r) (Refused which' s) e =
-    let strings : which ≡ which' = cc in
-    let numbers : number r ≡ number s = cc in
-    let places : place r ≡ place s = cc in
-    ap₂ Refused strings (refusal_told {A = Verdict} r s (ap₂ refused_said numbers places))
+verdict_known : (r s : Result Relation Refused) → verdict r ≡ verdict s → r ≡ s
+verdict_known (Ok SameAnswer) (Ok SameAnswer) e = cc
+verdict_known (Ok SameAnswer) (Ok (Phase j)) e = cc
+verdict_known (Ok SameAnswer) (Ok Different) e = cc
+verdict_known (Ok SameAnswer) (Err s) e = cc
+verdict_known (Ok (Phase i)) (Ok SameAnswer) e = cc
+verdict_known (Ok (Phase i)) (Ok (Phase j)) e = cc
+verdict_known (Ok (Phase i)) (Ok Different) e = cc
+verdict_known (Ok (Phase i)) (Err s) e = cc
+verdict_known (Ok Different) (Ok SameAnswer) e = cc
+verdict_known (Ok Different) (Ok (Phase j)) e = cc
+verdict_known (Ok Different) (Ok Different) e = cc
+verdict_known (Ok Different) (Err s) e = cc
+verdict_known (Err r) (Ok SameAnswer) e = cc
+verdict_known (Err r) (Ok (Phase j)) e = cc
+verdict_known (Err r) (Ok Different) e = cc
+verdict_known (Err r) (Err s) e =
+    let strings : r.which ≡ s.which = cc in
+    let numbers : number r.refusal ≡ number s.refusal = cc in
+    let places : place r.refusal ≡ place s.refusal = cc in
+    let refusals = refusal_told {A = Verdict} r.refusal s.refusal (ap₂ refused_said numbers places) in
+    λ i. Err (record { which = strings i; refusal = refusals i })
 
 -- so the value that is returned is one
-pub compare_returns_once : (a b : List ℕ) (r s : Compared) → Compare a b (verdict r) → Compare a b (verdict s) → r ≡ s
+pub compare_returns_once : (a b : List ℕ) (r s : Result Relation Refused) → Compare a b (verdict r) → Compare a b (verdict s) → r ≡ s
 compare_returns_once a b r s fits fits' = verdict_known r s (compare_said_once fits fits')
 
 -- ---- accepted strings

@@ -1,5 +1,5 @@
 -- Document 01, "Refusals": comparison of strings A and B.
-use Rattle.std.specs.Prelude.{ℕ, zero, suc, ◌≤◌, List}
+use Rattle.std.specs.Prelude.{ℕ, zero, suc, ◌≤◌, List, Result, Ok, Err}
 use Rattle.ring.specs.declared.Element.{Element}
 use Rattle.ring.specs.Element.{one, turned, product}
 use Rattle.matrix.specs.declared.Matrix.{Matrix}
@@ -10,8 +10,9 @@ use Rattle.answer.specs.Refusal.{number, place}
 use Rattle.alphabet.specs.String.{AcceptedString, RefusedString}
 use Rattle.compare.specs.declared.Which.{Which}
 use Rattle.compare.specs.declared.Which.TheVariants.{First, Second}
-use Rattle.compare.specs.declared.Compared.{Compared}
-use Rattle.compare.specs.declared.Compared.TheVariants.{Same as SameAnswer, Phase, Different, Refused}
+use Rattle.compare.specs.declared.Relation.{Relation}
+use Rattle.compare.specs.declared.Relation.TheVariants.{Same as SameAnswer, Phase, Different}
+use Rattle.compare.specs.declared.Refused.{Refused}
 
 -- What a comparison says, in document 01's terms: "same, or phase j, or different, or a refusal with its place and with
 -- which string it concerns".
@@ -21,12 +22,12 @@ pub data Verdict : Type 0 where
   different : Verdict
   refused : Which → ℕ → ℕ → Verdict
 
--- the paper's number and values for each case of the enum
-abbrev pub verdict : Compared → Verdict
-verdict SameAnswer = same
-verdict (Phase j) = phase j
-verdict Different = different
-verdict (Refused which r) = refused which (number r) (place r)
+-- the paper's number and values for each case of what a comparison returns
+abbrev pub verdict : Result Relation Refused → Verdict
+verdict (Ok SameAnswer) = same
+verdict (Ok (Phase j)) = phase j
+verdict (Ok Different) = different
+verdict (Err r) = refused r.which (number r.refusal) (place r.refusal)
 
 -- ω^j
 unfoldable pub omega_power : ℕ → Element

@@ -1,13 +1,12 @@
 // Comparison of two strings: same, a phase apart, or different.
 #![tactic(auto)]
 
-ghost use Rattle.std.specs.Prelude.{◌+◌, ◌%◌, ◌≤◌, ◌<◌, true, ◌↔◌, ◌≡◌, length};
+ghost use Rattle.std.specs.Prelude.{◌+◌, ◌%◌, ◌≤◌, ◌<◌, true, ◌↔◌, ◌≡◌, length, Ok};
 ghost use Rattle.form.specs.Tail.{tail_a};
 ghost use Rattle.stack.specs.State.{used, state_text, WellFormed};
 ghost use Rattle.compare.specs.Promise.{verdict, Related, Compare};
 
 use answer::{Refusal, STRING_LIMIT};
-use normalise::Normalised;
 use stack::State;
 
 // The string that a refusal concerns.
@@ -17,22 +16,19 @@ pub enum Which {
     Second,
 }
 
+// How the matrices of two strings stand to each other.
 #[derive(Clone, Copy)]
-pub enum Compared {
+pub enum Relation {
     Same,
     Phase(usize),
     Different,
-    Refused { which: Which, refusal: Refusal },
 }
 
-// A refusal with the string that it concerns. A form has none, and is not asked for one.
-fn refused(which: Which, normalised: Normalised) -> Compared
-    ensures { (refusal : Refusal) → normalised ≡ Normalised.Refused refusal → result ≡ Compared.Refused which refusal }
-{
-    match normalised {
-        Normalised::Refused(refusal) => Compared::Refused { which, refusal },
-        Normalised::Form(_) => Compared::Different,
-    }
+// A refusal with the string that it concerns.
+#[derive(Clone, Copy)]
+pub struct Refused {
+    pub which: Which,
+    pub refusal: Refusal,
 }
 
 // The codes in use agree, place by place.
@@ -60,41 +56,46 @@ fn between(from: u8, to: u8) -> usize
 
 // Two forms, as stacks and states spell them: a phase changes nothing but the last three bits of the tail.
 #[tactic(auto, using(crate::proofs::States::equal_by_tests, crate::proofs::States::apart_by_tests))]
-fn relation(first: &[u8; STRING_LIMIT], a: State, second: &[u8; STRING_LIMIT], b: State) -> Compared
+fn relate(first: &[u8; STRING_LIMIT], a: State, second: &[u8; STRING_LIMIT], b: State) -> Relation
     requires well_formed { WellFormed first.now a }
     requires well_formed_2 { WellFormed second.now b }
-    ensures { Related (state_text first.now a) (state_text second.now b) (verdict result) }
+    ensures { Related (state_text first.now a) (state_text second.now b) (verdict (Ok result)) }
 {
     if a.count != b.count {
-        return Compared::Different;
+        return Relation::Different;
     }
     if !same_codes(first, second, a.count) {
-        return Compared::Different;
+        return Relation::Different;
     }
     if a.tail / 8 != b.tail / 8 {
-        return Compared::Different;
+        return Relation::Different;
     }
     let j = between(b.tail, a.tail);
     if j == 0 {
-        return Compared::Same;
+        return Relation::Same;
     }
-    Compared::Phase(j)
+    Relation::Phase(j)
 }
 
 // The second string is looked at only when the first was accepted.
-pub fn compare(first: &[u8], second: &[u8]) -> Compared
+pub fn compare(first: &[u8], second: &[u8]) -> Result<Relation, Refused>
     ensures { Compare first.now second.now (verdict result) }
 {
     let products = tail::products();
     let mut first_stack = normalise::empty_stack();
     let first_normalised = normalise::normalise(&products, &mut first_stack, first);
-    let Normalised::Form(a) = first_normalised else {
-        return refused(Which::First, first_normalised);
+    let Ok(a) = first_normalised else {
+        return Err(Refused {
+            which: Which::First,
+            refusal: first_normalised.unwrap_err(),
+        });
     };
     let mut second_stack = normalise::empty_stack();
-    let second_normalised = normalise::normalise(&products, &mut second_stack, second);
-    let Normalised::Form(b) = second_normalised else {
-        return refused(Which::Second, second_normalised);
-    };
-    relation(&first_stack, a, &second_stack, b)
+    let b = normalise::normalise(&products, &mut second_stack, second).map_err(
+        |refusal| Refused {
+            which: Which::Second,
+            refusal,
+        },
+    )?;
+    Ok(relate(&first_stack, a, &second_stack, b))
 }

@@ -1,4 +1,4 @@
--- `compare::relation` meets its contract: where counts, codes or the tails before their W's differ the states agree for no phase;
+-- `compare::relate` meets its contract: where counts, codes or the tails before their W's differ the states agree for no phase;
 -- else the tails differ by j W's. Assumes nothing.
 use native.Mathlib.Omega.{arith}
 use borrow.Author.Rules.{rules}
@@ -6,7 +6,7 @@ use mathlib.Core.Bool.{true≢false}
 use mathlib.Core.Path.{sym, ap, ◌∙◌}
 use Rattle.stack.specs.State.{used}
 use Rattle.compare.proofs.States.{agree_count, unlike_states}
-use Rattle.compare.proofs.relation.Goals as goal
+use Rattle.compare.proofs.relate.Goals as goal
 
 pub returns-then-a-b : goal.returns-then-a-b
 returns-then-a-b c = unlike_states _ _ _ _ (search rules) (search rules) (λ j agree. c.if-a-b.true (agree_count _ _ _ _ j agree))
