@@ -6,16 +6,14 @@ use native.Mathlib.Numerals.{unary_clauses}
 use native.Mathlib.Omega.{arith}
 use mathlib.Core.List.{List, [], ◌∷◌, ◌++◌}
 use mathlib.Core.Path.{◌≡◌, refl, sym, ap, ◌∙◌}
-use lib.ListN.{length, take, drop, take-append-drop}
-use lib.Seq.{take-append-add, take-length, length-take-le, drop-cons}
+use lib.ListN.{length, take, drop, length-take, take-append-drop}
+use lib.Seq.{drop-drop, take-append-add, take-length, length-take-le, drop-cons}
 use borrow.Author.Tests.{eqb-true}
+use Rattle.std.specs.Prelude.{Option, Some, None, slice_range}
+use Rattle.std.proofs.lemmas.List.{drop-take}
 use Rattle.memchr.specs.Find.{NoneBefore, Nowhere, Passes, is_byte}
 use Rattle.std.proofs.Common.{eq-eqb, get_or}
-use Rattle.lines.specs.Put.{Put}
-use Rattle.lines.specs.Line.{Holds, Takes, Unbroken, line_end}
-use Rattle.lines.specs.declared.Taken.{Taken}
-use Rattle.lines.specs.declared.Taken.TheVariants.{Line, Open}
-use Rattle.lines.proofs.Block.{head_length, ends_with_bytes}
+use Rattle.lines.specs.Line.{Takes, Unbroken, line_end}
 
 cut_at_min : (m : ℕ) (s : List ℕ) → take (min (length s) m) s ≡ take m s
 cut_at_min zero [] = refl
@@ -28,23 +26,12 @@ pub cut_at_least : {n : ℕ} (m : ℕ) (s : List ℕ) → n ≡ min (length s) m
 cut_at_least m s least = rw least (cut_at_min m s)
 
 -- a piece cut at the room that is left ends the line cut at the room
-cut_piece :
-    (room : ℕ) {kept n : ℕ} (so_far piece : List ℕ) → length so_far ≡ kept → kept ≤ room → n ≡ min (length piece) (room - kept) →
+pub cut_piece :
+    (room free : ℕ) {n : ℕ} (so_far piece : List ℕ) → free + length so_far ≡ room → n ≡ min (length piece) free →
     so_far ++ take n piece ≡ take room (so_far ++ piece)
-cut_piece room {kept} so_far piece counted within least =
-    let whole : length so_far + (room - kept) ≡ room = omega arith in
-    rw (cut_at_least (room - kept) piece least) (sym (take-append-add so_far piece (room - kept)) ∙ rw whole)
-
--- a piece put after what is held, as much of it as there is room for
-pub held_by_put :
-    {kept n next : ℕ} {line after : List ℕ} (piece : List ℕ) → kept ≤ length line → n ≡ min (length piece) (length line - kept) →
-    Put kept (take n piece) line after next → Holds after next (take (length line) (take kept line ++ piece))
-held_by_put {kept} {n} {next} {line} {after} piece within least put =
-    let cut : take kept line ++ take n piece ≡ take (length line) (take kept line ++ piece) =
-    cut_piece (length line) (take kept line) piece (length-take-le kept line within) within least in
-    let here : take next after ≡ take kept line ++ take n piece =
-    rw (put.next_place, put.block) (ends_with_bytes kept line (take n piece) within) in
-    record { counted = put.next_place ∙ sym (head_length kept line (take n piece) within) ∙ ap length cut; held = here ∙ cut }
+cut_piece room free so_far piece whole least =
+    let all : length so_far + free ≡ room = omega arith in
+    rw (cut_at_least free piece least) (sym (take-append-add so_far piece free) ∙ rw all)
 
 -- a line cut at the room, and a piece more cut there again
 cut_again : (room : ℕ) (so_far piece : List ℕ) → take room (take room so_far ++ piece) ≡ take room (so_far ++ piece)
@@ -54,11 +41,11 @@ cut_again (suc room) (b ∷ so_far) piece = ap (λ (s : List ℕ). b ∷ s) (cut
 
 -- what is held of the line so far serves as well as all of it: however the input is cut, the same is kept
 pub held_serves :
-    {part so_far buffer : List ℕ} {room : ℕ} {t : Taken} → Takes part (take room so_far) room t buffer → Takes part so_far room t buffer
-held_serves {so_far = so_far} {room = room} (Takes.ends {piece} unbroken rest split holds) =
-    Takes.ends unbroken rest split (rw (cut_again room so_far piece) at holds)
-held_serves {part} {so_far} {room = room} (Takes.goes_on unbroken holds) =
-    Takes.goes_on unbroken (rw (cut_again room so_far part) at holds)
+    {part so_far line : List ℕ} {room : ℕ} {t : Option ℕ} → Takes part (take room so_far) room t line → Takes part so_far room t line
+held_serves {so_far = so_far} {room = room} (Takes.ends {piece} unbroken rest split held) =
+    Takes.ends unbroken rest split (rw (cut_again room so_far piece) at held)
+held_serves {part} {so_far} {room = room} (Takes.goes_on unbroken held) =
+    Takes.goes_on unbroken (rw (cut_again room so_far part) at held)
 
 -- bytes none of which is a line end
 unbroken : (n : ℕ) (part : List ℕ) → ((k : ℕ) → k < n → get_or part k 0 ≡ line_end → ⊥) → Unbroken (take n part)
@@ -66,21 +53,27 @@ unbroken zero part other = Unbroken.none
 unbroken (suc n) [] other = Unbroken.none
 unbroken (suc n) (b ∷ s) other = Unbroken.more (other 0 (omega arith)) (unbroken n s (λ k h. other (suc k) (omega arith)))
 
-module _ (part so_far : List ℕ) {room kept : ℕ} {after : List ℕ} where
+module _ (part so_far : List ℕ) {room : ℕ} {line : List ℕ} where
   -- a line end within the part
   pub line_taken :
       (n : ℕ) → NoneBefore (Passes (is_byte line_end) part) 0 (length part) n × Passes (is_byte line_end) part n →
-      Holds after kept (take room (so_far ++ take n part)) → Takes part so_far room (Line kept (n + 1)) after
-  line_taken n found holds =
+      line ≡ take room (so_far ++ take n part) → Takes part so_far room (Some (n + 1)) line
+  line_taken n found held =
       let here : get_or part n 0 ≡ line_end = eqb-true (get_or part n 0) line_end found.1 in
       let split : part ≡ take n part ++ (line_end ∷ drop (suc n) part) =
       sym (take-append-drop n part) ∙ ap (λ (s : List ℕ). take n part ++ s) (drop-cons part n 0 found.0.high ∙ ap (λ (b : ℕ). b ∷ drop (suc n) part) here) in
       rw (← length-take-le n part (le_of_lt found.0.high))
-      (Takes.ends (unbroken n part (λ k h e. found.0.before k zero-le h (eq-eqb (get_or part k 0) line_end e))) (drop (suc n) part) split holds)
+      (Takes.ends (unbroken n part (λ k h e. found.0.before k zero-le h (eq-eqb (get_or part k 0) line_end e))) (drop (suc n) part) split held)
 
   -- none
   pub part_taken :
-      Nowhere (Passes (is_byte line_end) part) 0 (length part) → Holds after kept (take room (so_far ++ part)) →
-      Takes part so_far room (Open kept) after
-  part_taken none holds =
-      Takes.goes_on (rw take-length at (unbroken (length part) part (λ k h e. none k zero-le h (eq-eqb (get_or part k 0) line_end e)))) holds
+      Nowhere (Passes (is_byte line_end) part) 0 (length part) → line ≡ take room (so_far ++ part) → Takes part so_far room None line
+  part_taken none held =
+      Takes.goes_on (rw take-length at (unbroken (length part) part (λ k h e. none k zero-le h (eq-eqb (get_or part k 0) line_end e)))) held
+
+-- a part of a list, without its first bytes
+pub range_without :
+    (xs : List ℕ) (i j n : ℕ) → n ≤ length (slice_range xs i j) → slice_range xs (i + n) j ≡ drop n (slice_range xs i j)
+range_without xs i j n within =
+    let whole : j - i ≡ n + (j - (i + n)) = omega (arith, length-take (j - i) (drop i xs)) in
+    rw (whole, drop-take n (j - (i + n)) (drop i xs), drop-drop n i xs)

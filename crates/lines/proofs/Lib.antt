@@ -1,3 +1,2 @@
-pub mod Block
 pub mod Kept
-pub mod Within
+pub mod Taken

@@ -1,3 +1,1 @@
-pub mod Put
 pub mod Line
-pub mod Progress

@@ -1,8 +1,6 @@
 -- Document 01, "The programs": lines. A line is the bytes up to the next line end, or up to the end of the input; of a
 -- longer line its first bytes are kept, as many as the line buffer holds.
-use Rattle.std.specs.Prelude.{ℕ, ◌+◌, List, [], ◌∷◌, ◌++◌, ◌≡◌, length, take}
-use Rattle.lines.specs.declared.Taken.{Taken}
-use Rattle.lines.specs.declared.Taken.TheVariants.{Line, Open}
+use Rattle.std.specs.Prelude.{ℕ, ◌+◌, Option, Some, None, Result, Ok, Err, Bool, true, not, ◌==◌, List, [], ◌∷◌, ◌++◌, ◌≡◌, length, take, drop}
 
 abbrev pub line_end : ℕ
 line_end = 10
@@ -12,17 +10,28 @@ pub data Unbroken : List ℕ → Type 0 where
   none : Unbroken []
   more : {b : ℕ} {s : List ℕ} → (b ≡ line_end → ⊥) → Unbroken s → Unbroken (b ∷ s)
 
--- so many bytes at the start of a buffer, and those bytes
-pub record Holds (buffer : List ℕ) (count : ℕ) (bytes : List ℕ) : Type 0 where
-  pub counted : count ≡ length bytes
-  pub held : take count buffer ≡ bytes
-
--- What a part of the input has of a line of which `so_far` came before: the rest of the line and its end, both of them
--- taken; or bytes of the line alone. `room` is the length of the line buffer, and `buffer` its bytes at exit.
-pub data Takes (part so_far : List ℕ) (room : ℕ) : Taken → List ℕ → Type 0 where
+-- What a part of the input has of a line of which `so_far` came before: the rest of the line and its end, so many bytes of
+-- the part; or bytes of the line alone. `room` is how many bytes of a line are held; those that are stand last.
+pub data Takes (part so_far : List ℕ) (room : ℕ) : Option ℕ → List ℕ → Type 0 where
   ends :
-      {piece buffer : List ℕ} {kept : ℕ} → Unbroken piece → (rest : List ℕ) → part ≡ piece ++ (line_end ∷ rest) →
-      Holds buffer kept (take room (so_far ++ piece)) → Takes part so_far room (Line kept (length piece + 1)) buffer
+      {piece : List ℕ} → Unbroken piece → (rest : List ℕ) → part ≡ piece ++ (line_end ∷ rest) →
+      {line : List ℕ} → line ≡ take room (so_far ++ piece) → Takes part so_far room (Some (length piece + 1)) line
+  goes_on : Unbroken part → {line : List ℕ} → line ≡ take room (so_far ++ part) → Takes part so_far room None line
+
+-- "A last line without an end counts if it has a byte."
+abbrev pub last : List ℕ → Bool
+last line = not (length line == 0)
+
+-- How the next line comes, turn by turn, from the part of the input that is still to be taken, with `so_far` of it held:
+-- the line ends in the part; or it goes on, and is read on; or it is the last; or reading or writing fails, and there is no
+-- line. At exit the line and the part that is then still to be taken. What is read no contract can say.
+pub data Turns (room : ℕ) {E : Type 0} : (part so_far : List ℕ) → Result Bool E → (line rest : List ℕ) → Type 0 where
+  line_ends :
+      {part so_far line : List ℕ} {used : ℕ} → Takes part so_far room (Some used) line →
+      Turns room part so_far (Ok true) line (drop used part)
   goes_on :
-      {buffer : List ℕ} {kept : ℕ} → Unbroken part → Holds buffer kept (take room (so_far ++ part)) →
-      Takes part so_far room (Open kept) buffer
+      {part so_far held line rest : List ℕ} {answer : Result Bool E} → Takes part so_far room None held → (more : List ℕ) →
+      Turns room more held answer line rest → Turns room part so_far answer line rest
+  ended :
+      {part so_far line : List ℕ} → Takes part so_far room None line → Turns room part so_far (Ok (last line)) line []
+  failed : {part so_far line rest : List ℕ} {error : E} → Turns room part so_far (Err error) line rest

@@ -1,255 +1,207 @@
 // Lines of an input, one after the other in bounded memory, and lines of an output in large blocks.
 #![tactic(auto)]
 
-ghost use Rattle.std.specs.Prelude.{◌≡◌, ◌+◌, ◌-◌, ◌≤◌, min, length, take, drop, ◌++◌};
-ghost use Rattle.lines.specs.Put.{Put};
-ghost use Rattle.lines.specs.Line.{Holds, Takes};
-ghost use Rattle.lines.specs.Progress.{Inside, fresh, put_up_to, Ready, last, ReadsOn, Turns};
+ghost use Rattle.std.specs.Prelude.{false, ℕ, List, ◌≡◌, ◌+◌, ◌≤◌, ◌++◌, [], length, take, drop, slice_range, OnOk, IfOk};
+ghost use Rattle.arrayvec.specs.ArrayVec.{array_vec_len};
+ghost use Rattle.lines.specs.Line.{Takes, last, Turns};
 
+use arrayvec::ArrayVec;
 use memchr::memchr;
-use std::io::{Read, Write};
+use std::io;
+use std::io::{ErrorKind, Read, Write};
+use std::marker::Model;
 
 pub const LINE_END: u8 = b'\n';
 
-// What a part of the input has of the line that is being read.
-#[derive(Clone, Copy)]
-pub enum Taken {
-    // The rest of the line and its end, `used` bytes of the part: `kept` bytes of the line are held.
-    Line { kept: usize, used: usize },
-    // Bytes of the line alone: it goes on past the part.
-    Open { kept: usize },
+// How many bytes are read or written at once.
+pub const BLOCK: usize = 65536;
+
+// The bytes that are still to be written.
+pub type Output = ArrayVec<u8, BLOCK>;
+
+// Bytes after those that stand there.
+pub fn put<const N: usize>(output: &mut ArrayVec<u8, N>, bytes: &[u8])
+    requires { array_vec_len output.old + length bytes.now ≤ N }
+    ensures { output.new.items ≡ output.old.items ++ bytes.now }
+{
+    let _ = output.try_extend_from_slice(bytes);
 }
 
-// How far the blocks are used: the input from `at` up to `end` is still to be taken, and `put` bytes of output are still
-// to be written. `closed` is true once no more input can come.
-#[derive(Clone, Copy)]
-pub struct Progress {
-    pub at: usize,
-    pub end: usize,
-    pub put: usize,
-    pub closed: bool,
+// Holds as much of a piece of a line as there is room for.
+fn hold<const N: usize>(line: &mut ArrayVec<u8, N>, piece: &[u8])
+    ensures { line.new.items ≡ take N (line.old.items ++ piece.now) }
+{
+    let count = piece.len().min(line.remaining_capacity());
+    put(line, &piece[..count]);
 }
 
-impl Progress {
-    // Nothing is read and nothing is to be written yet.
-    pub fn start() -> Self
-        ensures { result ≡ fresh }
+// Takes a part of the input up to the line's end, and holds what it has of the line. Where the line ends there, so many
+// bytes of the part are taken.
+pub fn take_line<const N: usize>(line: &mut ArrayVec<u8, N>, part: &[u8]) -> Option<usize>
+    ensures { Takes part.now line.old.items N result line.new.items }
+{
+    let Some(end) = memchr(LINE_END, part) else {
+        hold(line, part);
+        return None;
+    };
+    hold(line, &part[..end]);
+    Some(end + 1)
+}
+
+// An input, of which a block is read at a time: from `at` up to `end` the block is still to be taken. `closed` is true once
+// no more can come.
+#[derive(Drop)]
+struct Input<R> {
+    reader: R,
+    block: [u8; BLOCK],
+    at: usize,
+    end: usize,
+    closed: bool,
+}
+
+// What is still to be taken of the block.
+impl<R> Model for Input<R> {
+    ghost Value = { List ℕ };
+
+    ghost view = { λ input. slice_range input.block input.at input.end };
+
+    ghost invariant = { λ input. (input.at ≤ input.end) × (input.end ≤ 65536) };
+}
+
+impl<R: Read + Drop> Input<R> {
+    fn new(reader: R) -> Self
+        ensures { result ≡ [] }
     {
         Self {
+            reader,
+            block: [0; BLOCK],
             at: 0,
             end: 0,
-            put: 0,
             closed: false,
         }
     }
 
-    // The same with so many bytes of output still to be written.
-    pub fn with(mut self, put: usize) -> Self
-        ensures { result ≡ put_up_to self put }
+    fn rest(&self) -> &[u8]
+        ensures { result.now ≡ self.now }
     {
-        self.put = put;
-        self
+        &self.block[self.at..self.end]
+    }
+
+    fn take(&mut self, used: usize)
+        requires { used ≤ length self.old }
+        ensures { self.new ≡ drop used self.old }
+    {
+        self.at += used;
+    }
+
+    // Reads the next part: `false` once no more can come.
+    fn read(&mut self) -> io::Result<bool>
+        ensures { IfOk result (λ more. more ≡ false → self.new ≡ []) }
+    {
+        self.at = 0;
+        self.end = 0;
+        if self.closed {
+            return Ok(false);
+        }
+        self.end = self.reader.read(&mut self.block)?;
+        self.closed = self.end == 0;
+        Ok(!self.closed)
     }
 }
 
-// The next line: `length` of its bytes stand in the line buffer.
-#[derive(Clone, Copy)]
-pub enum Next {
-    Line { length: usize, progress: Progress },
-    End,
+// The input and the output of a program. The last line that came stands in `line`.
+#[derive(Drop)]
+pub struct Lines<R, W, const N: usize> {
+    input: Input<R>,
+    writer: W,
+    line: ArrayVec<u8, N>,
+    output: Output,
 }
 
-// One turn of a search for a line's end.
-#[derive(Clone, Copy)]
-enum Step {
-    Done(Next),
-    Again { kept: usize, progress: Progress },
-}
-
-// Bytes into a block, at a place; answers the place after them.
-pub fn put(bytes: &[u8], block: &mut [u8], at: usize) -> usize
-    requires { at + length bytes.now ≤ length block.old }
-    ensures { Put at bytes.now block.old block.new result }
-{
-    let next = at + bytes.len();
-    block[at..next].copy_from_slice(bytes);
-    next
-}
-
-pub fn least(a: usize, b: usize) -> usize
-    ensures { result ≡ min a b }
-{
-    if a < b { a } else { b }
-}
-
-// Holds as much of a piece of a line as the line buffer has room for after the bytes that it holds already.
-fn hold(piece: &[u8], line: &mut [u8], kept: usize) -> usize
-    requires { kept ≤ length line.old }
-    ensures { Holds line.new result (take (length line.old) (take kept line.old ++ piece.now)) }
-{
-    let n = least(piece.len(), line.len() - kept);
-    put(&piece[..n], line, kept)
-}
-
-// Takes a part of the input up to the line's end, and holds what it has of the line after the bytes that are held already.
-pub fn take_line(part: &[u8], line: &mut [u8], kept: usize) -> Taken
-    requires { kept ≤ length line.old }
-    ensures { Takes part.now (take kept line.old) (length line.old) result line.new }
-{
-    match memchr(LINE_END, part) {
-        Some(end) => Taken::Line {
-            kept: hold(&part[..end], line, kept),
-            used: end + 1,
-        },
-        None => Taken::Open {
-            kept: hold(part, line, kept),
-        },
+impl<R: Read + Drop, W: Write + Drop, const N: usize> Lines<R, W, N> {
+    // Nothing is read and nothing is to be written yet.
+    pub fn new(reader: R, writer: W) -> Self
+        ensures nothing_read { result.input ≡ [] }
+        ensures nothing_to_write { result.output.items ≡ [] }
+    {
+        Self {
+            input: Input::new(reader),
+            writer,
+            line: ArrayVec::new(),
+            output: ArrayVec::new(),
+        }
     }
-}
 
-// The line that the end of the input ends: one if it has a byte.
-#[tactic(auto, using(crate::proofs::Within::last_none, crate::proofs::Within::last_some))]
-fn last_line(kept: usize) -> Next
-    ensures { result ≡ last kept }
-{
-    if kept == 0 {
-        return Next::End;
+    // Writes what is still to be written.
+    fn write_out(&mut self) -> io::Result<()>
+        ensures written { OnOk result (self.new.output.items ≡ []) }
+        ensures input { self.new.input ≡ self.old.input }
+        ensures line { self.new.line ≡ self.old.line }
+    {
+        self.writer.write_all(&self.output)?;
+        self.output.clear();
+        Ok(())
     }
-    Next::Line {
-        length: kept,
-        progress: Progress {
-            at: 0,
-            end: 0,
-            put: 0,
-            closed: true,
-        },
-    }
-}
 
-// Writes what is ready before it waits for input, and reads the next part of the input. An error ends the input, and no
-// line is made of the bytes before it.
-fn refill<R: Read, W: Write>(
-    reader: &mut R,
-    writer: &mut W,
-    input: &mut [u8],
-    output: &[u8],
-    progress: Progress,
-    kept: usize,
-) -> Step
-    requires { progress.put ≤ length output.now }
-    ensures { ReadsOn (length input.old) kept result }
-{
-    let put = progress.put;
-    if writer.write_all(&output[..put]).is_err() {
-        return Step::Done(Next::End);
+    // Writes what is still to be written, unless there is room for so many bytes more.
+    fn make_room(&mut self, room: usize) -> io::Result<()>
+        requires { room ≤ BLOCK }
+        ensures room { OnOk result (array_vec_len self.new.output + room ≤ BLOCK) }
+        ensures input { self.new.input ≡ self.old.input }
+    {
+        if room <= self.output.remaining_capacity() {
+            return Ok(());
+        }
+        self.write_out()
     }
-    if progress.closed {
-        return Step::Done(Next::End);
-    }
-    let Ok(end) = reader.read(input) else {
-        return Step::Done(Next::End);
-    };
-    if end == 0 {
-        return Step::Done(last_line(kept));
-    }
-    Step::Again {
-        kept,
-        progress: Progress {
-            at: 0,
-            end,
-            put: 0,
-            closed: false,
-        },
-    }
-}
 
-// Takes what the input block has of the line, and where that is not its end reads on.
-fn turn<R: Read, W: Write>(
-    reader: &mut R,
-    writer: &mut W,
-    input: &mut [u8],
-    line: &mut [u8],
-    output: &[u8],
-    progress: Progress,
-    kept: usize,
-) -> Step
-    requires inside { Inside (length input.old) (length output.now) progress }
-    requires kept_in_bounds { kept ≤ length line.old }
-    ensures { Turns (take (progress.end - progress.at) (drop progress.at input.old)) (take kept line.old) (length line.old) (length input.old) progress result line.new }
-{
-    let at = progress.at;
-    let end = progress.end;
-    match take_line(&input[at..end], line, kept) {
-        Taken::Line { kept: held, used } => Step::Done(Next::Line {
-            length: held,
-            progress: Progress {
-                at: at + used,
-                end,
-                put: progress.put,
-                closed: progress.closed,
-            },
-        }),
-        Taken::Open { kept: held } => refill(reader, writer, input, output, progress, held),
+    // Writes what is ready before it waits for input, and reads the next part: `false` once no more can come.
+    fn read_on(&mut self) -> io::Result<bool>
+        ensures written { OnOk result (self.new.output.items ≡ []) }
+        ensures ended { IfOk result (λ more. more ≡ false → self.new.input ≡ []) }
+        ensures line { self.new.line ≡ self.old.line }
+    {
+        self.write_out()?;
+        self.input.read()
     }
-}
 
-// Turns until the line ends. The number of turns is one that no input uses up.
-fn seek<R: Read, W: Write>(
-    reader: &mut R,
-    writer: &mut W,
-    input: &mut [u8],
-    line: &mut [u8],
-    output: &[u8],
-    start: Progress,
-) -> Next
-    requires { Inside (length input.old) (length output.now) start }
-    ensures { Ready (length input.old) (length line.old) start.put result }
-{
-    let mut progress = start;
-    let mut kept = 0;
-    let mut turns = u64::MAX;
-    while turns > 0 {
-        turns -= 1;
-        match turn(reader, writer, input, line, output, progress, kept) {
-            Step::Done(next) => return next,
-            Step::Again {
-                kept: held,
-                progress: further,
-            } => {
-                kept = held;
-                progress = further;
+    // Whether there is a next line, which then stands in `line`; with room for so many bytes of output. The number of turns
+    // is one that no input uses up.
+    pub fn next_line(&mut self, room: usize) -> io::Result<bool>
+        requires { room ≤ BLOCK }
+        ensures line { Turns N self.old.input [] result self.new.line.items self.new.input }
+        ensures room { OnOk result (array_vec_len self.new.output + room ≤ BLOCK) }
+    {
+        self.make_room(room)?;
+        self.line.clear();
+        for _ in 0..u64::MAX {
+            if let Some(used) = take_line(&mut self.line, self.input.rest()) {
+                self.input.take(used);
+                return Ok(true);
+            }
+            if !self.read_on()? {
+                return Ok(!self.line.is_empty());
             }
         }
+        Err(io::Error::from(ErrorKind::Other))
     }
-    Next::End
-}
 
-// The next line of the input, with room for so many bytes in the output block.
-pub fn next_line<R: Read, W: Write>(
-    reader: &mut R,
-    writer: &mut W,
-    input: &mut [u8],
-    line: &mut [u8],
-    output: &[u8],
-    start: Progress,
-    room: usize,
-) -> Next
-    requires inside { Inside (length input.old) (length output.now) start }
-    requires room_in_bounds { room ≤ length output.now }
-    ensures { Ready (length input.old) (length line.old) (length output.now - room) result }
-{
-    let put = start.put;
-    if room <= output.len() - put {
-        return seek(reader, writer, input, line, output, start);
+    // Answers each line: `answer` adds its answer to the output, where there is room for so many bytes.
+    pub fn each_line<F: FnMut(&[u8], &mut Output)>(
+        &mut self,
+        room: usize,
+        mut answer: F,
+    ) -> io::Result<()>
+        requires room { room ≤ BLOCK }
+        requires callable { (state : F) (line : _) (output : _) → length line.now ≤ N → array_vec_len output.now + room ≤ BLOCK → F.pre state line output }
+        ensures { OnOk result (self.new.output.items ≡ []) }
+    {
+        for _ in 0..u64::MAX {
+            if !self.next_line(room)? {
+                break;
+            }
+            answer(&self.line, &mut self.output);
+        }
+        self.write_out()
     }
-    if writer.write_all(&output[..put]).is_err() {
-        return Next::End;
-    }
-    let fresh = Progress {
-        at: start.at,
-        end: start.end,
-        put: 0,
-        closed: start.closed,
-    };
-    seek(reader, writer, input, line, output, fresh)
 }

@@ -2,8 +2,8 @@
 use Rattle.lines.proofs.Kept.{line_taken, part_taken}
 use Rattle.lines.proofs.take_line.Goals as goal
 
-pub returns-in-Some : goal.returns-in-Some
-returns-in-Some c = line_taken c.args.part.now _ c.in-Some.end c.in-Some.ensures c.hold.ensures
+pub returns-in_default : goal.returns-in_default
+returns-in_default g c = part_taken c.args.part.now _ c.in_default.ensures c.hold.ensures
 
-pub returns-in-None : goal.returns-in-None
-returns-in-None c = part_taken c.args.part.now _ c.in-None.ensures c.hold-in-None.ensures
+pub returns : goal.returns
+returns g c = line_taken c.args.part.now _ c.in-Some.end c.in-Some.ensures c.hold-2.ensures
