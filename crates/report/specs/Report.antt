@@ -37,16 +37,12 @@ unfoldable pub answer_line : Said Figures → List ℕ → List ℕ
 answer_line (accepted figures) buffer = ok_line figures.tcount figures.hcount (take figures.length buffer)
 answer_line (refused number place) buffer = no_line number place
 
--- The longest number of a machine has twenty digits: room for a number, for a field, for two fields, and for a line with an
--- empty form.
+-- The longest number of a machine has twenty digits: room for a number, for a field, and for a line with an empty form.
 abbrev pub number_room : ℕ
 number_room = 20
 
 abbrev pub field_room : ℕ
 field_room = 21
-
-abbrev pub head_room : ℕ
-head_room = 42
 
 abbrev pub line_room : ℕ
 line_room = 46

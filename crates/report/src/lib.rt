@@ -1,99 +1,76 @@
-// The lines that the programs write, put into a lent block.
+// The lines that the programs write, added to the output.
 #![tactic(auto)]
 
-ghost use Rattle.std.specs.Prelude.{◌≡◌, ◌+◌, ◌≤◌, length, take};
-ghost use Rattle.lines.specs.Put.{Put};
-ghost use Rattle.answer.specs.Limits.{form_limit};
-ghost use Rattle.answer.specs.Refusal.{number, place};
-ghost use Rattle.answer.specs.Written.{said};
+ghost use Rattle.std.specs.Prelude.{◌≡◌, ◌+◌, ◌≤◌, ◌++◌, length, take};
+ghost use Rattle.arrayvec.specs.ArrayVec.{array_vec_len};
+ghost use Rattle.answer.specs.Refusal.{number, place, said};
 ghost use Rattle.report.specs.Decimal.{decimal};
-ghost use Rattle.report.specs.Report.{field, head, ok_line, no_line, answer_line, number_room, field_room, head_room, line_room};
+ghost use Rattle.report.specs.Report.{field, ok_line, no_line, answer_line, number_room, field_room, line_room};
 
-use answer::{FORM_LIMIT, Figures, Refusal, Written};
+use answer::{Figures, Refusal};
+use lines::{BLOCK, Output};
 
 // How much longer than its form a line can be.
 pub const LINE_ROOM: usize = 46;
 
-// Room for any form.
-pub fn form_buffer() -> [u8; FORM_LIMIT]
-    ensures { form_limit ≡ length result }
-{
-    [0; FORM_LIMIT]
-}
-
 // A number in decimal.
-pub fn put_number(n: u64, block: &mut [u8], at: usize) -> usize
-    requires { at + number_room ≤ length block.old }
-    ensures put { Put at (decimal n) block.old block.new result }
-    ensures upper_bound { result ≤ at + number_room }
+#[tactic(auto, using(crate::proofs::Number::written_decimal))]
+pub fn put_number(output: &mut Output, n: u64)
+    requires { array_vec_len output.old + number_room ≤ BLOCK }
+    ensures put { output.new.items ≡ output.old.items ++ decimal n }
+    ensures upper_bound { array_vec_len output.new ≤ array_vec_len output.old + number_room }
 {
-    let mut digits = [0u8; 20];
-    let count = io::decimal(n, &mut digits);
-    lines::put(&digits[..count], block, at)
+    let mut digits = itoa::Buffer::new();
+    lines::put(output, digits.format(n).as_bytes());
 }
 
 // A number after a space.
-pub fn put_field(n: u64, block: &mut [u8], at: usize) -> usize
-    requires { at + field_room ≤ length block.old }
-    ensures put { Put at (field n) block.old block.new result }
-    ensures upper_bound { result ≤ at + field_room }
+#[tactic(auto, unfolding(crate::specs::Report::field))]
+pub fn put_field(output: &mut Output, n: u64)
+    requires { array_vec_len output.old + field_room ≤ BLOCK }
+    ensures put { output.new.items ≡ output.old.items ++ field n }
+    ensures upper_bound { array_vec_len output.new ≤ array_vec_len output.old + field_room }
 {
-    let after_space = lines::put(b" ", block, at);
-    put_number(n, block, after_space)
-}
-
-// A word and two numbers.
-pub fn put_head(word: &[u8], first: u64, second: u64, block: &mut [u8], at: usize) -> usize
-    requires { at + length word.now + head_room ≤ length block.old }
-    ensures put { Put at (head word.now first second) block.old block.new result }
-    ensures upper_bound { result ≤ at + length word.now + head_room }
-{
-    let after_word = lines::put(word, block, at);
-    let after_first = put_field(first, block, after_word);
-    put_field(second, block, after_first)
+    lines::put(output, b" ");
+    put_number(output, n);
 }
 
 // `ok`, T-count, H-count, and the form at the start of the buffer.
-fn put_form(figures: Figures, buffer: &[u8], block: &mut [u8], at: usize) -> usize
-    requires { at + line_room + length buffer.now ≤ length block.old }
-    ensures { Put at (ok_line figures.tcount figures.hcount (take figures.length buffer.now)) block.old block.new result }
+#[tactic(auto, using(crate::proofs::Lines::ok_line_added, lines::proofs::Kept::cut_at_least))]
+fn put_form(output: &mut Output, figures: Figures, buffer: &[u8])
+    requires { array_vec_len output.old + line_room + length buffer.now ≤ BLOCK }
+    ensures { output.new.items ≡ output.old.items ++ ok_line figures.tcount figures.hcount (take figures.length buffer.now) }
 {
-    let length = lines::least(buffer.len(), figures.length);
-    let after_head = put_head(
-        b"ok",
-        figures.tcount as u64,
-        figures.hcount as u64,
-        block,
-        at,
-    );
-    let after_space = lines::put(b" ", block, after_head);
-    let after_form = lines::put(&buffer[..length], block, after_space);
-    lines::put(b"\n", block, after_form)
+    let length = buffer.len().min(figures.length);
+    lines::put(output, b"ok");
+    put_field(output, figures.tcount as u64);
+    put_field(output, figures.hcount as u64);
+    lines::put(output, b" ");
+    lines::put(output, &buffer[..length]);
+    lines::put(output, b"\n");
 }
 
 // `no`, refusal, place.
-pub fn put_refusal(refusal: Refusal, block: &mut [u8], at: usize) -> usize
-    requires { at + line_room ≤ length block.old }
-    ensures put { Put at (no_line (number refusal) (place refusal)) block.old block.new result }
-    ensures upper_bound { result ≤ at + line_room }
+#[tactic(auto, using(crate::proofs::Lines::no_line_added))]
+pub fn put_refusal(output: &mut Output, refusal: Refusal)
+    requires { array_vec_len output.old + line_room ≤ BLOCK }
+    ensures put { output.new.items ≡ output.old.items ++ no_line (number refusal) (place refusal) }
+    ensures upper_bound { array_vec_len output.new ≤ array_vec_len output.old + line_room }
 {
-    let after_head = put_head(
-        b"no",
-        refusal.number() as u64,
-        refusal.place() as u64,
-        block,
-        at,
-    );
-    lines::put(b"\n", block, after_head)
+    lines::put(output, b"no");
+    put_field(output, refusal.number() as u64);
+    put_field(output, refusal.place() as u64);
+    lines::put(output, b"\n");
 }
 
 // The line of an answer.
-pub fn put_answer(answer: Written, buffer: &[u8], block: &mut [u8], at: usize) -> usize
-    requires { at + line_room + length buffer.now ≤ length block.old }
-    ensures { Put at (answer_line (said answer) buffer.now) block.old block.new result }
+#[tactic(auto, unfolding(crate::specs::Report::answer_line))]
+pub fn put_answer(output: &mut Output, answer: Result<Figures, Refusal>, buffer: &[u8])
+    requires { array_vec_len output.old + line_room + length buffer.now ≤ BLOCK }
+    ensures { output.new.items ≡ output.old.items ++ answer_line (said answer) buffer.now }
 {
     match answer {
-        Written::Form(figures) => put_form(figures, buffer, block, at),
-        Written::Refused(refusal) => put_refusal(refusal, block, at),
+        Ok(figures) => put_form(output, figures, buffer),
+        Err(refusal) => put_refusal(output, refusal),
     }
 }
