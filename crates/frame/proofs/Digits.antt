@@ -1,11 +1,16 @@
 -- Numbers in lower-case hexadecimal digits: which bytes are digits, that digits are digits, how many there are, and that
 -- they tell the number. Assumes nothing.
-use Rattle.std.proofs.Common.{◌≡◌, ℕ, zero, suc, ◌+◌, ◌-◌, ◌*◌, ◌/◌, ◌%◌, ◌^◌, ◌<◌, ◌≤◌, Bool, true, false, cond, ltb, ◌⊎◌, List, [], ◌∷◌, ◌++◌, length, get_or, take, drop, sym, refl, ap, ◌∙◌, ap₂, inl, inr, true≢false, pow-suc, arith, length-append, ltb-false, ltb-true, le-ltb, lt-ltb, le-leb}
+use Rattle.std.proofs.Common.{eqb, ◌&&◌, take-suc, take_all, subst, ◌≡◌, ℕ, zero, suc, ◌+◌, ◌-◌, ◌*◌, ◌/◌, ◌%◌, ◌^◌, ◌<◌, ◌≤◌, Bool, true, false, cond, ltb, ◌⊎◌, List, [], ◌∷◌, ◌++◌, length, get_or, take, drop, sym, refl, ap, ◌∙◌, ap₂, inl, inr, true≢false, pow-suc, arith, length-append, ltb-false, ltb-true, le-ltb, lt-ltb, le-leb}
+use Rattle.std.specs.List.{fold}
+use Rattle.std.proofs.lemmas.Bool.{eqb-true, eq-eqb}
+use Rattle.std.proofs.lemmas.List.Sums.{fold_push}
+use Rattle.std.proofs.lemmas.List.Folds.{fold_stays}
 use borrow.Author.Tests.{lt-leb}
 use lib.Seq.{take-append_seam, drop-append_seam}
 use Rattle.lists.specs.List.{none, more}
-use Rattle.lists.proofs.List.{every_join}
+use Rattle.lists.proofs.List.{every_join, every_member}
 use Rattle.frame.specs.Digit.{digit, is_digit, digits, Digits}
+use Rattle.frame.specs.Parts.{digit_value, number_of}
 
 -- ---- one digit
 pub digit_low : (n : ℕ) → n < 10 → digit n ≡ 48 + n
@@ -84,21 +89,52 @@ low_value b e h = let r = low_range b e h in omega (arith, digit_low (b - 48) (o
 pub high_value : (b : ℕ) → is_digit b ≡ true → 58 ≤ b → b ≡ digit (b - 87)
 high_value b e h = let r = high_range b e h in omega (arith, digit_high (b - 87) (omega arith))
 
--- the lowest bits of a digit, with 9 more for a letter, are that number
-pub folded_value : (b : ℕ) → is_digit b ≡ true → digit ((b + 9 * (b / 64)) % 16) ≡ b
-folded_value b e = by (ltb b 58) refl
+-- a digit is the digit for its number
+pub digit_of_value : (b : ℕ) → is_digit b ≡ true → digit (digit_value b) ≡ b
+unfolding digit_value
+digit_of_value b e = by (ltb b 58) refl
   where
-    by : (t : Bool) → ltb b 58 ≡ t → digit ((b + 9 * (b / 64)) % 16) ≡ b
+    by : (t : Bool) → ltb b 58 ≡ t → digit ((b % 16 + 9 * (b / 64)) % 16) ≡ b
     by true f =
         let below = ltb-true b 58 f in
         let from = low_range b e below in
-        let sum : b + 9 * (b / 64) ≡ 48 + (b - 48) = omega arith in
-        ap (λ (n : ℕ). digit (n % 16)) sum ∙ ap digit (omega arith) ∙ sym (low_value b e below)
+        ap digit (omega arith) ∙ sym (low_value b e below)
     by false f =
         let above = ltb-false b 58 f in
         let between = high_range b e above in
-        let sum : b + 9 * (b / 64) ≡ 96 + (b - 87) = omega arith in
-        ap (λ (n : ℕ). digit (n % 16)) sum ∙ ap digit (omega arith) ∙ sym (high_value b e above)
+        ap digit (omega arith) ∙ sym (high_value b e above)
+
+pub digit_value_below : (b : ℕ) → digit_value b < 16
+unfolding digit_value
+digit_value_below b = omega arith
+
+-- and any other byte is not the digit for its number
+pub is_its_digit : (b : ℕ) → eqb (digit (digit_value b)) b ≡ is_digit b
+is_its_digit b = by (eqb (digit (digit_value b)) b) (is_digit b) refl refl
+  where
+    by : (t u : Bool) → eqb (digit (digit_value b)) b ≡ t → is_digit b ≡ u → t ≡ u
+    by true true e f = refl
+    by false false e f = refl
+    by true false e f = absurd (true≢false (sym (digit_is_digit (digit_value b) (digit_value_below b)) ∙ ap is_digit (eqb-true _ _ e) ∙ f))
+    by false true e f = absurd (true≢false (sym (eq-eqb (digit (digit_value b)) b (digit_of_value b f)) ∙ e))
+
+-- whether all bytes of a text are digits, as a walk to its end keeps it
+abbrev pub still_digits : Bool → ℕ → Bool
+still_digits all b = all && eqb (digit (digit_value b)) b
+
+pub digits_by_fold : (text : List ℕ) → fold still_digits true text ≡ true → Digits text
+digits_by_fold [] e = none
+digits_by_fold (b ∷ text) e = by (eqb (digit (digit_value b)) b) refl e (digits_by_fold text)
+  where
+    by :
+        (t : Bool) → eqb (digit (digit_value b)) b ≡ t → fold still_digits t text ≡ true →
+        (fold still_digits true text ≡ true → Digits text) → Digits (b ∷ text)
+    by true same kept rest = more (sym (is_its_digit b) ∙ same) (rest kept)
+    by false same kept rest = absurd (true≢false (sym kept ∙ fold_stays still_digits false (λ x. refl) text))
+
+pub fold_of_digits : {text : List ℕ} → Digits text → fold still_digits true text ≡ true
+fold_of_digits none = refl
+fold_of_digits (more {a = b} {s = text} e rest) = ap (λ (t : Bool). fold still_digits t text) (is_its_digit b ∙ e) ∙ fold_of_digits rest
 
 -- ---- numbers in digits
 pub digits_length : (k n : ℕ) → length (digits k n) ≡ k
@@ -116,6 +152,25 @@ digits_are_digits (suc k) n =
 pub digits_more : (k n d : ℕ) → d < 16 → digits (suc k) (n * 16 + d) ≡ digits k n ++ (digit d ∷ [])
 unfolding digits
 digits_more k n d h = ap₂ (λ (q r : ℕ). digits k q ++ (digit r ∷ [])) (omega arith) (omega arith)
+
+-- digits are the number that they stand for, in as many digits
+spelled_to : (text : List ℕ) (i : ℕ) → i ≤ length text → Digits text → take i text ≡ digits i (number_of (take i text))
+unfolding digits
+spelled_to text zero h all = refl
+spelled_to text (suc i) h all =
+    let b = get_or text i 0 in
+    let before : i < length text = omega arith in
+    let n = number_of (take i text) in
+    let next : take (suc i) text ≡ take i text ++ (b ∷ []) = take-suc text i 0 before in
+    next
+    ∙ ap₂ (λ (s : List ℕ) (d : ℕ). s ++ (d ∷ [])) (spelled_to text i (omega arith) all) (sym (digit_of_value b (every_member 0 all i before)))
+    ∙ sym (digits_more i n (digit_value b) (digit_value_below b))
+    ∙ ap (digits (suc i)) (sym (ap number_of next ∙ fold_push (λ n b. n * 16 + digit_value b) 0 (take i text) b))
+
+pub spelled : (text : List ℕ) → Digits text → text ≡ digits (length text) (number_of text)
+spelled text all =
+    let whole = take_all (length text) text (omega arith) in
+    subst (λ (s : List ℕ). s ≡ digits (length text) (number_of s)) whole (spelled_to text (length text) (omega arith) all)
 
 -- two joined texts are the same only where the parts are, if the first parts are as long
 pub join_once : (s s' t t' : List ℕ) → length s ≡ length s' → s ++ t ≡ s' ++ t' → (s ≡ s') × (t ≡ t')

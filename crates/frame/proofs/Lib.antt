@@ -1,4 +1,5 @@
 pub mod Digits
+pub mod Mapped
 pub mod Words
 pub mod Spelled
 pub mod Once

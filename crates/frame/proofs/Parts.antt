@@ -1,90 +1,73 @@
 -- A frame's text, part by part: words read and written one after the other, and parts joined. Assumes nothing.
-use Rattle.std.proofs.Common.{◌≡◌, ℕ, suc, ◌+◌, ◌-◌, ◌*◌, ◌%◌, ◌^◌, ◌<◌, ◌≤◌, List, [], ◌∷◌, ◌++◌, length, get_or, take, drop, set, ℤ, pos, sym, ap, ◌∙◌, subst, ap₂, append_assoc, append-nil, add-one, arith, length-append, length-drop, take-append-drop, length-take, length-take-le, take_all, take-suc, drop-drop, take-suc-set, take_at, drop_at}
+use Rattle.std.proofs.Common.{refl, ◌≡◌, ℕ, suc, ◌+◌, ◌-◌, ◌*◌, ◌%◌, ◌^◌, ◌<◌, ◌≤◌, List, [], ◌∷◌, ◌++◌, length, get_or, take, drop, sym, ap, ◌∙◌, subst, ap₂, append_assoc, append-nil, add-one, arith, length-append, length-drop, take-append-drop, length-take, length-take-le, take_all, take-suc, drop-drop, take_at, drop_at}
 use borrow.Rule.Slice.PartMut.{put_mid}
-use lib.Seq.{take-append-add}
-use Rattle.lists.specs.List.{none, more}
-use Rattle.lists.proofs.List.{every_take, every_drop, every_join}
-use Rattle.ring.proofs.Bounds.{stored}
+use Rattle.std.proofs.lemmas.List.{length-map}
+use Rattle.lists.proofs.List.{every_take, every_drop}
 use Rattle.matrix.specs.declared.Matrix.{Matrix}
-use Rattle.answer.specs.Limits.{frame_length, check_word_place}
+use Rattle.answer.specs.Limits.{frame_length}
 use Rattle.coefficients.specs.Coefficients.{coefficients, record_of}
 use Rattle.coefficients.proofs.ReadBack.{coefficients_read_back}
 use Rattle.frame.specs.Digit.{digits, Digits}
-use Rattle.frame.specs.Frame.{word, words, words_text, total, frame_text, InWords, Spells}
-use Rattle.frame.specs.Parts.{Spelled, Coefficient, Coefficients, RecordText}
-use Rattle.frame.proofs.Digits.{digits_length}
-use Rattle.frame.proofs.Words.{in_word_stored}
+use Rattle.frame.specs.Frame.{words, words_text, total, check_word, frame_text, InWords, Spells}
+use Rattle.frame.specs.Parts.{number_of}
+use Rattle.frame.proofs.Digits.{digits_length, spelled}
+use Rattle.frame.proofs.Words.{signed, words_signed, signed_in_words}
 
--- a front and what follows it make a longer front
-pub take_more : (n k : ℕ) (l : List ℕ) → n ≤ length l → take (n + k) l ≡ take n l ++ take k (drop n l)
-take_more n k l h =
-    let front = length-take-le n l h in
-    ap₂ (λ (m : ℕ) (s : List ℕ). take (m + k) s) (sym front) (sym (take-append-drop n l))
-    ∙ take-append-add (take n l) (drop n l) k
+-- the words of a text with one more
+pub words_text_more : (ws : List ℕ) (w : ℕ) → words_text (ws ++ (w ∷ [])) ≡ words_text ws ++ digits 8 w
+unfolding words_text
+words_text_more [] w = append-nil (digits 8 w)
+words_text_more (v ∷ rest) w =
+    ap (λ (s : List ℕ). digits 8 v ++ s) (words_text_more rest w)
+    ∙ sym (append_assoc (digits 8 v) (words_text rest) (digits 8 w))
 
--- the words of a list with one coefficient more
-pub words_more : (list : List ℤ) (z : ℤ) → words_text (words (list ++ (z ∷ []))) ≡ words_text (words list) ++ digits 8 (word z)
-unfolding words words_text
-words_more [] z = append-nil (digits 8 (word z))
-words_more (y ∷ rest) z =
-    ap (λ (s : List ℕ). digits 8 (word y) ++ s) (words_more rest z)
-    ∙ sym (append_assoc (digits 8 (word y)) (words_text (words rest)) (digits 8 (word z)))
-
-pub total_more : (list : List ℤ) (z : ℤ) → total (words (list ++ (z ∷ []))) ≡ total (words list) + word z
-unfolding words total
-total_more [] z = omega arith
-total_more (y ∷ rest) z = omega (arith, total_more rest z)
+pub total_more : (ws : List ℕ) (w : ℕ) → total (ws ++ (w ∷ [])) ≡ total ws + w
+unfolding total
+total_more [] w = omega arith
+total_more (v ∷ rest) w = omega (arith, total_more rest w)
 
 -- the sum of the words with one more, modulo 2^32
 pub sum_more :
-    (list : List ℤ) (i k sum : ℕ) → i < length list → sum ≡ (k + total (words (take i list))) % 2 ^ 32 →
-    (sum + word (get_or list i (pos 0))) % 2 ^ 32 ≡ (k + total (words (take (suc i) list))) % 2 ^ 32
-sum_more list i k sum h e =
-    let more = ap (λ (l : List ℤ). total (words l)) (take-suc list i (pos 0) h) ∙ total_more (take i list) (get_or list i (pos 0)) in
+    (ws : List ℕ) (i k sum : ℕ) → i < length ws → sum ≡ (k + total (take i ws)) % 2 ^ 32 →
+    (sum + get_or ws i 0) % 2 ^ 32 ≡ (k + total (take (i + 1) ws)) % 2 ^ 32
+sum_more ws i k sum h e =
+    let more = ap total (ap (λ (m : ℕ). take m ws) (add-one i) ∙ take-suc ws i 0 h) ∙ total_more (take i ws) (get_or ws i 0) in
     omega arith
 
 -- the text of a part
 abbrev pub part : ℕ → ℕ → List ℕ → List ℕ
 part from to text = take (to - from) (drop from text)
 
-pub part_digits : (from to : ℕ) (text : List ℕ) → Digits text → Digits (part from to text)
-part_digits from to text d = every_take (to - from) (every_drop from d)
-
 pub part_length : (from to : ℕ) (text : List ℕ) → from ≤ to → to ≤ length text → length (part from to text) ≡ to - from
 part_length from to text h k = simp (length-take, length-drop) (omega arith)
 
--- a word more is read
-pub read_more :
-    (text : List ℕ) (list : List ℤ) (i n : ℕ) (z : ℤ) → i < length list → 8 * i + 8 ≤ length text →
-    take (8 * i) text ≡ words_text (words (take i list)) → Spelled (part (8 * i) (8 * i + 8) text) n → Coefficient n z →
-    take (8 * suc i) text ≡ words_text (words (take (suc i) (set list i z)))
-read_more text list i n z h k e s w =
-    ap (λ (m : ℕ). take m text) longer
-    ∙ take_more (8 * i) 8 text (omega arith)
-    ∙ ap₂ ◌++◌ e read
-    ∙ sym (ap (λ (l : List ℤ). words_text (words l)) (take-suc-set list i z h) ∙ words_more (take i list) z)
+-- a number is read of digits
+pub number_spelled : (size : ℕ) (text : List ℕ) → length text ≡ size → Digits text → text ≡ digits size (number_of text)
+number_spelled size text e all = spelled text all ∙ ap (λ (k : ℕ). digits k (number_of text)) e
+
+-- words are read of eight digits each
+pub words_spelled :
+    (ws text : List ℕ) → length text ≡ 8 * length ws → Digits text →
+    ((i : ℕ) → i < length ws → get_or ws i 0 ≡ number_of (part (8 * i) (8 * i + 8) text)) → text ≡ words_text ws
+unfolding words_text
+words_spelled [] text e all read = empty text (omega arith)
   where
-    longer : 8 * suc i ≡ 8 * i + 8
-    longer = omega arith
+    empty : (s : List ℕ) → length s ≡ 0 → s ≡ []
+    empty [] l = refl
+    empty (b ∷ s) l = absurd (omega arith)
+words_spelled (w ∷ ws) text e all read =
+    sym (take-append-drop 8 text) ∙ ap₂ ◌++◌ first (words_spelled ws (drop 8 text) (omega (arith, length-drop 8 text)) (every_drop 8 all) rest)
+  where
+    first : take 8 text ≡ digits 8 w
+    first =
+        number_spelled 8 (take 8 text) (length-take-le 8 text (omega arith)) (every_take 8 all)
+        ∙ ap (digits 8) (sym (read 0 (omega arith)))
 
-    eight : 8 * i + 8 - 8 * i ≡ 8
-    eight = omega arith
-
-    read : take 8 (drop (8 * i) text) ≡ digits 8 (word z)
-    read =
-        ap (λ (m : ℕ). take m (drop (8 * i) text)) (sym eight) ∙ s.digits
-        ∙ ap₂ digits (part_length (8 * i) (8 * i + 8) text (omega arith) k ∙ eight) w.word
-
--- the same, with the coefficient as it is stored
-pub read_step :
-    (text : List ℕ) (list : List ℤ) (i n : ℕ) (z : ℤ) → i < length list → 8 * i + 8 ≤ length text →
-    take (8 * i) text ≡ words_text (words (take i list)) → InWords (take i list) →
-    Spelled (part (8 * i) (8 * i + 8) text) n → Coefficient n z →
-    (take (8 * (i + 1)) text ≡ words_text (words (take (i + 1) (set list i (stored z)))))
-    × InWords (take (i + 1) (set list i (stored z)))
-read_step text list i n z h k e f s w =
-    rw (add-one, in_word_stored w.fits)
-    (read_more text list i n z h k e s w, subst InWords (sym (take-suc-set list i z h)) (every_join f (more w.fits none)))
+    rest : (i : ℕ) → i < length ws → get_or ws i 0 ≡ number_of (part (8 * i) (8 * i + 8) (drop 8 text))
+    rest i h = read (suc i) (omega arith) ∙ ap number_of (ap₂ (λ (k : ℕ) (s : List ℕ). take k s) (omega arith) moved)
+      where
+        moved : drop (8 * suc i) text ≡ drop (8 * i) (drop 8 text)
+        moved = ap (λ (n : ℕ). drop n text) (omega arith) ∙ sym (drop-drop (8 * i) 8 text)
 
 -- ---- parts written
 -- a part put in its place, after what stands before it
@@ -110,58 +93,79 @@ after_front s before a k e h =
 
 -- a word more is written
 pub write_step :
-    (text ys rest : List ℕ) (list : List ℤ) (i : ℕ) → i < length list → 8 * i ≤ length text →
-    take (8 * i) text ≡ words_text (words (take i list)) → ys ≡ digits 8 (word (get_or list i (pos 0))) →
-    take (8 * (i + 1)) (take (8 * i) text ++ (ys ++ rest)) ≡ words_text (words (take (i + 1) list))
-write_step text ys rest list i h k e f =
+    (text ys rest ws : List ℕ) (i : ℕ) → i < length ws → 8 * i ≤ length text →
+    take (8 * i) text ≡ words_text (take i ws) → ys ≡ digits 8 (get_or ws i 0) →
+    take (8 * (i + 1)) (take (8 * i) text ++ (ys ++ rest)) ≡ words_text (take (i + 1) ws)
+write_step text ys rest ws i h k e f =
     ap (λ (m : ℕ). take m (take (8 * i) text ++ (ys ++ rest))) longer
-    ∙ front_of_put (8 * i) 8 text ys rest k (ap length f ∙ digits_length 8 (word (get_or list i (pos 0))))
+    ∙ front_of_put (8 * i) 8 text ys rest k (ap length f ∙ digits_length 8 (get_or ws i 0))
     ∙ ap₂ ◌++◌ e f
-    ∙ sym (words_more (take i list) (get_or list i (pos 0)))
-    ∙ ap (λ (l : List ℤ). words_text (words l)) (sym (ap (λ (m : ℕ). take m list) (add-one i) ∙ take-suc list i (pos 0) h))
+    ∙ sym (words_text_more (take i ws) (get_or ws i 0))
+    ∙ ap words_text (sym (ap (λ (m : ℕ). take m ws) (add-one i) ∙ take-suc ws i 0 h))
   where
     longer : 8 * (i + 1) ≡ 8 * i + 8
     longer = omega arith
 
 -- ---- parts joined
--- a text is its front and the part after it
-pub in_two : (n : ℕ) (text : List ℕ) → n ≤ length text → text ≡ take n text ++ part n (length text) text
-in_two n text h =
-    sym (take-append-drop n text)
-    ∙ ap (λ (s : List ℕ). take n text ++ s) (sym (take_all (length text - n) (drop n text) (omega (arith, length-drop n text))))
+-- what a text spells, and the right check word beside the one that it holds
+pub record FrameRead (text : List ℕ) (m : Matrix) (check sum : ℕ) : Type 0 where
+  pub spells : Spells text m check
+  pub right : sum ≡ check_word m
 
--- a front of two digits and the 128 after it are a record
-pub record_parts :
-    {text : List ℕ} {n : ℕ} {list : List ℤ} → length text ≡ check_word_place → length list ≡ 16 → Spelled (take 2 text) n →
-    Coefficients (part 2 (length text) text) list → RecordText text (record_of n list)
-unfolding record_of
-record_parts {text} {n} {list} l sixteen s c =
-    let read_back = coefficients_read_back n list sixteen in
-    record {
-      digits =
-          in_two 2 text (omega arith)
-          ∙ ap₂ ◌++◌ (s.digits ∙ ap (λ (k : ℕ). digits k n) two) (c.words ∙ ap (λ (z : List ℤ). words_text (words z)) (sym read_back));
-      exponent = subst (λ (k : ℕ). n < 16 ^ k) two s.below;
-      coefficients = subst InWords (sym read_back) c.fit;
-    }
-  where
-    two : length (take 2 text) ≡ 2
-    two = length-take-le 2 text (omega arith)
+-- a text's exponent, sixteen words and check word, as they are read
+module _
+    (text ws : List ℕ) (exponent check : ℕ) (long : length text ≡ frame_length) (all : Digits text)
+    (first : exponent ≡ number_of (take 2 text)) (small : exponent < 16 ^ length (take 2 text)) (sixteen : length ws ≡ 16)
+    (fit : (i : ℕ) → get_or ws i 0 < 2 ^ 32)
+    (each : (i : ℕ) → i < length ws → get_or ws i 0 ≡ number_of (part (8 * i) (8 * i + 8) (part 2 130 text)))
+    (last : check ≡ number_of (part 130 (length text) text)) (below : check < 2 ^ 32) where
+  two : length (take 2 text) ≡ 2
+  two = length-take-le 2 text (omega arith)
 
--- a front of 130 digits and the eight after it are a frame
-pub frame_parts :
-    {text : List ℕ} {m : Matrix} {check : ℕ} → length text ≡ frame_length → RecordText (take check_word_place text) m →
-    Spelled (part check_word_place (length text) text) check → Spells text m check
-unfolding frame_text
-frame_parts {text} {m} {check} l r s = record {
-  exponent = r.exponent;
-  coefficients = r.coefficients;
-  check_word = subst (λ (k : ℕ). check < 16 ^ k) eight s.below;
-  digits =
-      in_two check_word_place text (omega arith)
-      ∙ ap₂ ◌++◌ r.digits (s.digits ∙ ap (λ (k : ℕ). digits k check) eight)
-      ∙ append_assoc (digits 2 m.exponent) (words_text (words (coefficients m))) (digits 8 check);
-}
-  where
-    eight : length (part check_word_place (length text) text) ≡ 8
-    eight = part_length check_word_place (length text) text (omega arith) (omega arith) ∙ omega arith
+  front : take 2 text ≡ digits 2 exponent
+  front = number_spelled 2 (take 2 text) two (every_take 2 all) ∙ ap (digits 2) (sym first)
+
+  middle : part 2 130 text ≡ words_text ws
+  middle =
+      words_spelled ws (part 2 130 text) (part_length 2 130 text (omega arith) (omega arith) ∙ omega arith)
+      (every_take 128 (every_drop 2 all)) each
+
+  eight : length (drop 130 text) ≡ 8
+  eight = omega (arith, length-drop 130 text)
+
+  end : drop 130 text ≡ digits 8 check
+  end =
+      number_spelled 8 (drop 130 text) eight (every_drop 130 all)
+      ∙ ap (λ (s : List ℕ). digits 8 (number_of s)) (sym (take_all (length text - 130) (drop 130 text) (omega (arith, eight))))
+      ∙ ap (digits 8) (sym last)
+
+  spelled_parts : text ≡ digits 2 exponent ++ (words_text ws ++ digits 8 check)
+  spelled_parts =
+      sym (take-append-drop 2 text)
+      ∙ ap₂ ◌++◌ front (sym (take-append-drop 128 (drop 2 text)) ∙ ap₂ ◌++◌ middle (drop-drop 128 2 text ∙ end))
+
+  read_back : coefficients (record_of exponent (signed ws)) ≡ signed ws
+  read_back = coefficients_read_back exponent (signed ws) (length-map ws _ ∙ sixteen)
+
+  same_words : words (coefficients (record_of exponent (signed ws))) ≡ ws
+  same_words = ap words read_back ∙ words_signed ws fit
+
+  spells : Spells text (record_of exponent (signed ws)) check
+  unfolding frame_text record_of
+  spells = record {
+    exponent = subst (λ (k : ℕ). exponent < 16 ^ k) two small;
+    coefficients = subst InWords (sym read_back) (signed_in_words ws fit);
+    check_word = below;
+    digits = spelled_parts ∙ ap (λ (s : List ℕ). digits 2 exponent ++ (words_text s ++ digits 8 check)) (sym same_words);
+  }
+
+  right_sum : (exponent + total ws) % 2 ^ 32 ≡ check_word (record_of exponent (signed ws))
+  unfolding check_word record_of
+  right_sum = ap (λ (s : List ℕ). (exponent + total s) % 2 ^ 32) (sym same_words)
+
+  pub frame_read : {m : Matrix} {sum : ℕ} → m ≡ record_of exponent (signed ws) → sum ≡ (exponent + total ws) % 2 ^ 32 → FrameRead text m check sum
+  frame_read e added = rw e (record { spells = spells; right = added ∙ right_sum })
+
+-- the check word that a text spells is the right one where the two are equal
+pub right_word : {text : List ℕ} {m : Matrix} {check sum : ℕ} → FrameRead text m check sum → check ≡ sum → Spells text m (check_word m)
+right_word {text} {m} read e = subst (Spells text m) (e ∙ read.right) read.spells

@@ -5,8 +5,7 @@ use Rattle.answer.specs.declared.Refusal.TheVariants.{BadFrame, NoRoom}
 use Rattle.answer.specs.Limits.{frame_length}
 use Rattle.answer.specs.Refusal.{accepted, refusal}
 use Rattle.answer.specs.Written.{put}
-use Rattle.accept_record.specs.declared.Judgement.TheVariants.{Accepted}
-use Rattle.accept_record.specs.Accept.{Judged}
+use Rattle.accept_record.specs.Accept.{AcceptedRecord}
 use Rattle.frame.specs.Frame.{check_word, frame_text}
 use Rattle.frame.specs.Calls.{short, long, bad_frame, FrameToMatrix, refused_frame, MatrixToFrame, no_room, framed}
 
@@ -19,13 +18,11 @@ long_frame text h = refused_frame (bad_frame (long h))
 
 -- ---- matrix to frame
 pub short_buffer :
-    (m : Matrix) (before : List ℕ) → Judged m Accepted → length before < frame_length →
+    (m : Matrix) (before : List ℕ) → AcceptedRecord m → length before < frame_length →
     MatrixToFrame m before (refusal (NoRoom frame_length)) before
-unfolding Judged
 short_buffer m before a h = no_room a h
 
 pub long_buffer :
-    (m : Matrix) (before after : List ℕ) → Judged m Accepted → frame_length ≤ length before →
+    (m : Matrix) (before after : List ℕ) → AcceptedRecord m → frame_length ≤ length before →
     after ≡ put (frame_text m (check_word m)) before → MatrixToFrame m before (accepted tt) after
-unfolding Judged
 long_buffer m before after a h e = subst (MatrixToFrame m before (accepted tt)) (sym e) (framed a h)

@@ -1,11 +1,9 @@
 -- Coefficients as words in two's complement, and words in eight digits each: they tell the coefficients. Assumes nothing.
-use Rattle.std.proofs.Common.{◌≡◌, ℕ, zero, suc, ◌-◌, ◌*◌, ◌^◌, ◌<◌, Bool, true, false, cond, ltb, List, [], ◌∷◌, length, ℤ, pos, negsuc, ◌-ℤ◌, sym, refl, ap, ◌∙◌, ap₂, true≢false, le_of_suc-le-suc, not-suc-le-zero, zero-add, arith, length-append, to_z-of_z, w64, SFits, to_z, ltb-true, ◌≤◌, subst}
-use mir.Facts.{to_z_pos}
-use lib.Signed.{lt_z}
+use Rattle.std.proofs.Common.{map, get_or, w32, ltb-false, ◌≡◌, ℕ, suc, ◌-◌, ◌*◌, ◌^◌, ◌<◌, Bool, true, false, cond, ltb, List, [], ◌∷◌, length, ℤ, pos, negsuc, sym, refl, ap, ◌∙◌, ap₂, arith, length-append, SFits, ltb-true}
+use Rattle.std.specs.Int.{cast_signed, cast_unsigned}
 use Rattle.lists.specs.List.{none, more}
 use Rattle.lists.proofs.List.{every_join}
 use Rattle.ring.specs.Bounds.{Bounded}
-use Rattle.ring.proofs.Bounds.{stored}
 use Rattle.answer.specs.Limits.{coefficient_limit}
 use Rattle.accept_record.specs.Accept.{InLimits}
 use Rattle.accept_record.proofs.Limits.{bounded_in_limit}
@@ -27,14 +25,6 @@ word_once (from_zero h) (below_zero k) e = absurd (omega arith)
 word_once (below_zero h) (from_zero k) e = absurd (omega arith)
 word_once (below_zero h) (below_zero k) e = ap negsuc (omega arith)
 
--- a coefficient that fits a word fits 64 bits
-in_word_fits : {z : ℤ} → InWord z → SFits w64 z
-in_word_fits (from_zero h) = record { sfits = omega arith }
-in_word_fits (below_zero h) = record { sfits = omega arith }
-
-pub in_word_stored : {z : ℤ} → InWord z → stored z ≡ z
-in_word_stored h = to_z-of_z (in_word_fits h)
-
 -- a coefficient in the limit fits a word
 pub in_word : (z : ℤ) → Bounded coefficient_limit z → InWord z
 in_word (pos n) h = from_zero {n = n} (omega (arith, h.size))
@@ -44,63 +34,51 @@ pub in_words : {list : List ℤ} → InLimits list → InWords list
 in_words none = none
 in_words (more {a = z} e h) = more (in_word z (bounded_in_limit z e)) (in_words h)
 
--- below zero and from zero, as the code tells them apart
-pub record BelowZero (z : ℤ) : Type 0 where
-  pub steps : ℕ
-  pub is : z ≡ negsuc steps
-  pub small : steps < 2 ^ 31
+-- a coefficient's bits are its word, and a word's bits are a coefficient of that word
+pub word_unsigned : (z : ℤ) → cast_unsigned w32 z ≡ word z
+unfolding word
+word_unsigned (pos n) = refl
+word_unsigned (negsuc n) = omega arith
 
-pub record FromZero (z : ℤ) : Type 0 where
-  pub size : ℕ
-  pub is : z ≡ pos size
-  pub small : size < 2 ^ 31
-
-pub below_zero_word : {z : ℤ} → InWord z → lt_z z (pos 0) ≡ true → BelowZero z
-below_zero_word (from_zero {n = n} h) e = absurd (not-suc-le-zero (ltb-true n 0 e))
-below_zero_word (below_zero {n = n} h) e = record { steps = n; is = refl; small = h }
-
-pub from_zero_word : {z : ℤ} → InWord z → lt_z z (pos 0) ≡ false → FromZero z
-from_zero_word (from_zero {n = n} h) e = record { size = n; is = refl; small = h }
-from_zero_word (below_zero h) e = absurd (true≢false e)
-
--- −1 less a number, and −1 less a number below zero
-pub minus_one_less : (n : ℕ) → negsuc 0 -ℤ pos n ≡ negsuc n
-minus_one_less zero = refl
-minus_one_less (suc n) = ap (λ (k : ℕ). negsuc (suc k)) (zero-add n)
-
-pub minus_one_less_negative : (n : ℕ) → negsuc 0 -ℤ negsuc n ≡ pos n
-minus_one_less_negative n = by (ltb (suc n) 1) refl
+pub word_signed : (w : ℕ) → w < 2 ^ 32 → word (cast_signed w32 w) ≡ w
+unfolding word
+word_signed w h = by (ltb w 2147483648) refl
   where
-    by : (t : Bool) → ltb (suc n) 1 ≡ t → cond t (negsuc (1 - suc (suc n))) (pos (suc n - 1)) ≡ pos n
-    by true e = absurd (not-suc-le-zero (le_of_suc-le-suc (ltb-true (suc n) 1 e)))
-    by false e = ap pos (omega arith)
+    by : (t : Bool) → ltb w 2147483648 ≡ t → word (cond t (pos w) (negsuc (4294967296 - suc w))) ≡ w
+    by true e = refl
+    by false e = omega arith
 
--- what the code computes for a word from 2^31 up
-negative : (w : ℕ) → 2 ^ 31 ≤ w → negsuc 0 -ℤ to_z w64 (4294967295 - w) ≡ negsuc (4294967295 - w)
-negative w h = ap (λ (z : ℤ). negsuc 0 -ℤ z) (to_z_pos w64 {n = 4294967295 - w} (omega arith)) ∙ minus_one_less (4294967295 - w)
+pub signed_in_word : (w : ℕ) → w < 2 ^ 32 → InWord (cast_signed w32 w)
+signed_in_word w h = by (ltb w 2147483648) refl
+  where
+    by : (t : Bool) → ltb w 2147483648 ≡ t → InWord (cond t (pos w) (negsuc (4294967296 - suc w)))
+    by true e = from_zero (ltb-true w 2147483648 e)
+    by false e = let from = ltb-false w 2147483648 e in below_zero {n = 4294967296 - suc w} (omega arith)
 
-pub negative_fits : (w : ℕ) → 2 ^ 31 ≤ w → SFits w64 (negsuc 0 -ℤ to_z w64 (4294967295 - w))
-negative_fits w h = subst (SFits w64) (sym (negative w h)) (record { sfits = omega arith })
-
--- the coefficient of a word below 2^31 and of one from there up, as the machine hands it on
-pub low_word : (w : ℕ) → w < 2 ^ 31 → word (to_z w64 w) ≡ w
-unfolding word
-low_word w h = ap word (to_z_pos w64 {n = w} (omega arith))
-
-pub low_fits : (w : ℕ) → w < 2 ^ 31 → InWord (to_z w64 w)
-low_fits w h = subst InWord (sym (to_z_pos w64 {n = w} (omega arith))) (from_zero h)
-
-high_is : (w : ℕ) → 2 ^ 31 ≤ w → stored (negsuc 0 -ℤ to_z w64 (4294967295 - w)) ≡ negsuc (4294967295 - w)
-high_is w h = to_z-of_z (negative_fits w h) ∙ negative w h
-
-pub high_word : (w : ℕ) → 2 ^ 31 ≤ w → w < 2 ^ 32 → word (stored (negsuc 0 -ℤ to_z w64 (4294967295 - w))) ≡ w
-unfolding word
-high_word w h k = ap word (high_is w h) ∙ omega arith
-
-pub high_fits : (w : ℕ) → 2 ^ 31 ≤ w → InWord (stored (negsuc 0 -ℤ to_z w64 (4294967295 - w)))
-high_fits w h = subst InWord (sym (high_is w h)) (below_zero {n = 4294967295 - w} (omega arith))
+-- a coefficient that fits a word fits 32 bits
+pub in_word_fits : {z : ℤ} → InWord z → SFits w32 z
+in_word_fits (from_zero h) = record { sfits = omega arith }
+in_word_fits (below_zero h) = record { sfits = omega arith }
 
 -- ---- many words
+pub words_unsigned : (list : List ℤ) → map (λ z. cast_unsigned w32 z) list ≡ words list
+unfolding words
+words_unsigned [] = refl
+words_unsigned (z ∷ rest) = ap₂ ◌∷◌ (word_unsigned z) (words_unsigned rest)
+
+-- the coefficients of words
+abbrev pub signed : List ℕ → List ℤ
+signed ws = map (λ w. cast_signed w32 w) ws
+
+pub words_signed : (ws : List ℕ) → ((i : ℕ) → get_or ws i 0 < 2 ^ 32) → words (signed ws) ≡ ws
+unfolding words
+words_signed [] fit = refl
+words_signed (w ∷ ws) fit = ap₂ ◌∷◌ (word_signed w (fit 0)) (words_signed ws (λ i. fit (suc i)))
+
+pub signed_in_words : (ws : List ℕ) → ((i : ℕ) → get_or ws i 0 < 2 ^ 32) → InWords (signed ws)
+signed_in_words [] fit = none
+signed_in_words (w ∷ ws) fit = more (signed_in_word w (fit 0)) (signed_in_words ws (λ i. fit (suc i)))
+
 pub words_length : (list : List ℤ) → length (words list) ≡ length list
 unfolding words
 words_length [] = refl

@@ -1,76 +1,54 @@
 // Matrix frames: read, and written.
 #![tactic(auto)]
 
-ghost use Rattle.std.specs.Prelude.{◌≡◌, ◌<◌, ◌≤◌, true, ◌↔◌, length};
-ghost use Rattle.answer.specs.Limits.{frame_length, check_word_place};
-ghost use Rattle.answer.specs.Written.{put};
-ghost use Rattle.coefficients.specs.Coefficients.{coefficients};
-ghost use Rattle.frame.specs.Digit.{digit, is_digit, digits, Digits};
-ghost use Rattle.frame.specs.Frame.{word, words, words_text, check_word, frame_text, InWord, InWords};
-ghost use Rattle.answer.specs.Refusal.{said};
+ghost use Rattle.std.specs.Prelude.{◌≡◌, ◌+◌, ◌*◌, ◌%◌, ◌^◌, ◌<◌, ◌≤◌, true, ◌↔◌, length, map, slice_range, EachIndex, slice_index};
+ghost use Rattle.std.specs.Int.{cast_signed};
+ghost use mir.Syntax.{w32};
 ghost use Rattle.lists.specs.Found.{Finds};
+ghost use Rattle.answer.specs.Limits.{frame_length};
+ghost use Rattle.answer.specs.Refusal.{said};
+ghost use Rattle.answer.specs.Written.{put};
+ghost use Rattle.coefficients.specs.Coefficients.{coefficients, record_of};
+ghost use Rattle.frame.specs.Digit.{digit, is_digit, digits, Digits};
+ghost use Rattle.frame.specs.Frame.{words, words_text, total, check_word, frame_text, InWords};
 ghost use Rattle.frame.specs.Calls.{FrameToMatrix, MatrixToFrame};
-ghost use Rattle.frame.specs.Parts.{Spelled, Coefficient, Coefficients, RecordText};
+ghost use Rattle.frame.specs.Parts.{digit_value, number_of};
 
-use accept_record::Judgement;
 use answer::{CHECK_WORD_PLACE, FRAME_LENGTH, Refusal};
 use matrix::Matrix;
 
 // 0-9 and a-f.
-#[tactic(auto, using(crate::proofs::Digits::low_digit, crate::proofs::Digits::high_digit, crate::proofs::Digits::below_digits, crate::proofs::Digits::between_digits, crate::proofs::Digits::above_digits))]
+#[tactic(auto, unfolding(crate::specs::Digit::is_digit))]
 fn is_digit(b: u8) -> bool
     ensures { result ≡ is_digit b }
 {
-    match b {
-        b'0'..=b'9' | b'a'..=b'f' => true,
-        _ => false,
-    }
+    matches!(b, b'0'..=b'9' | b'a'..=b'f')
 }
 
-// The number below sixteen that a digit stands for.
-fn digit_value(b: u8) -> u32
-    requires { is_digit b ≡ true }
-    ensures { (b ≡ digit result) × (result < 16) }
+// The number below sixteen that a digit stands for: its lowest four bits, with 9 more for a letter.
+#[tactic(auto, unfolding(crate::specs::Parts::digit_value))]
+fn digit_value(b: u8) -> u8
+    ensures value { result ≡ digit_value b }
+    ensures below { result < 16 }
 {
-    let wide = b as u32;
-    if wide < 58 { wide - 48 } else { wide - 87 }
+    (b % 16 + 9 * (b / 64)) % 16
 }
 
 // The digit for a number below sixteen.
-fn digit_of(n: u32) -> u8
+#[tactic(auto, using(crate::proofs::Digits::digit_low, crate::proofs::Digits::digit_high))]
+fn digit_of(n: u8) -> u8
     requires { n < 16 }
     ensures { result ≡ digit n }
 {
-    if n < 10 {
-        (48 + n) as u8
-    } else {
-        (87 + n) as u8
-    }
-}
-
-// A digit, whatever the byte: a digit gives itself.
-fn as_digit(b: u8) -> u8
-    ensures result_value { is_digit result ≡ true }
-    ensures value { is_digit b ≡ true → result ≡ b }
-{
-    let wide = b as u32;
-    digit_of((wide + 9 * (wide / 64)) % 16)
+    if n < 10 { b'0' + n } else { b'a' + (n - 10) }
 }
 
 // Whether every byte is a digit. The walk goes to the end, so that a compiler can take many bytes at a time.
 fn are_digits(text: &[u8]) -> bool
     ensures { result ≡ true ↔ Digits text.now }
 {
-    let mut all = true;
-    let mut i = 0;
-    while i < text.len() {
-        let b = text[i];
-        if as_digit(b) != b {
-            all = false;
-        }
-        i += 1;
-    }
-    all
+    text.iter()
+        .fold(true, |all, b| all & (digit_of(digit_value(*b)) == *b))
 }
 
 // The first place of a byte that is no digit.
@@ -85,15 +63,13 @@ fn first_bad_digit(text: &[u8]) -> Option<usize>
 
 // The number that up to eight digits stand for.
 fn number(text: &[u8]) -> u32
-    requires digits { Digits text.now }
-    requires text_len_bound { length text.now ≤ 8 }
-    ensures { Spelled text.now result }
+    requires { length text.now ≤ 8 }
+    ensures value { result ≡ number_of text.now }
+    ensures below { result < 16 ^ length text.now }
 {
-    let mut n: u32 = 0;
-    let mut i = 0;
-    while i < text.len() {
-        n = n * 16 + digit_value(text[i]);
-        i += 1;
+    let mut n = 0;
+    for b in text {
+        n = n * 16 + u32::from(digit_value(*b));
     }
     n
 }
@@ -103,93 +79,60 @@ fn write_number(part: &mut [u8], n: u32)
     ensures { part.new ≡ digits (length part.old) n }
 {
     let mut rest = n;
-    let mut i = part.len();
-    while 0 < i {
-        i -= 1;
-        part[i] = digit_of(rest % 16);
-        rest = rest / 16;
+    // By place: no invariant tells what a walk over `iter_mut().rev()` has written.
+    for i in (0..part.len()).rev() {
+        part[i] = digit_of((rest % 16) as u8);
+        rest /= 16;
     }
 }
 
-// The coefficient that a word stands for in two's complement.
-#[tactic(auto, using(crate::proofs::Words::negative_fits, crate::proofs::Words::low_word, crate::proofs::Words::low_fits, crate::proofs::Words::high_word, crate::proofs::Words::high_fits))]
-fn coefficient(w: u32) -> i64
-    ensures { Coefficient w result }
+// The sixteen words that 128 digits stand for.
+fn read_words(text: &[u8]) -> [u32; 16]
+    requires { length text.now ≡ 128 }
+    ensures { EachIndex result (λ i. slice_index result i ≡ number_of (slice_range text.now (8 * i) (8 * i + 8))) }
 {
-    if w < 2147483648 {
-        w as i64
-    } else {
-        -1 - ((4294967295 - w) as i64)
+    let mut words = [0; 16];
+    for (i, word) in words.iter_mut().enumerate() {
+        *word = number(&text[8 * i..8 * i + 8]);
     }
+    words
 }
 
-// The word of a coefficient in two's complement.
-fn word(n: i64) -> u32
-    requires { InWord n }
-    ensures { result ≡ word n }
+// Sixteen words in eight digits each.
+fn write_words(part: &mut [u8], words: &[u32; 16])
+    requires { length part.old ≡ 128 }
+    ensures { part.new ≡ words_text words.now }
 {
-    if n < 0 {
-        4294967295 - ((-1 - n) as u32)
-    } else {
-        n as u32
+    // By place: no invariant tells what a walk over `chunks_exact_mut(8)` has written.
+    for (i, word) in words.iter().enumerate() {
+        write_number(&mut part[8 * i..8 * i + 8], *word);
     }
-}
-
-// The sixteen coefficients that 128 digits stand for.
-fn coefficients(text: &[u8]) -> [i64; 16]
-    requires digits { Digits text.now }
-    requires text_len { length text.now ≡ 128 }
-    ensures { Coefficients text.now result }
-{
-    let mut list = [0i64; 16];
-    let mut i = 0;
-    while i < 16 {
-        let start = 8 * i;
-        let end = start + 8;
-        list[i] = coefficient(number(&text[start..end]));
-        i += 1;
-    }
-    list
 }
 
 // The check word: a sum that wraps.
-fn check_word(m: Matrix) -> u32
-    requires { InWords (coefficients m) }
-    ensures { result ≡ check_word m }
+fn check_word(exponent: u32, words: &[u32; 16]) -> u32
+    ensures { result ≡ (exponent + total words.now) % 2 ^ 32 }
 {
-    let list = coefficients::coefficients(m);
-    let mut sum = m.exponent;
-    let mut i = 0;
-    while i < 16 {
-        sum = std::num::wrapping_add_u32(sum, word(list[i]));
-        i += 1;
+    let mut sum = exponent;
+    for word in words {
+        sum = std::num::wrapping_add_u32(sum, *word);
     }
     sum
 }
 
-// The words of sixteen coefficients, in eight digits each.
-fn write_words(part: &mut [u8], list: [i64; 16])
-    requires part_len { length part.old ≡ 128 }
-    requires in_words { InWords list }
-    ensures { part.new ≡ words_text (words list) }
+// The words of a record: its coefficients in two's complement.
+fn words_of(m: Matrix) -> [u32; 16]
+    requires { InWords (coefficients m) }
+    ensures { result ≡ words (coefficients m) }
 {
-    let mut i = 0;
-    while i < 16 {
-        let start = 8 * i;
-        let end = start + 8;
-        write_number(&mut part[start..end], word(list[i]));
-        i += 1;
-    }
+    coefficients::coefficients(m).map(|n| (n as i32).cast_unsigned())
 }
 
-// The record that the first 130 digits of a frame stand for.
-fn read_record(text: &[u8]) -> Matrix
-    requires digits { Digits text.now }
-    requires text_len { length text.now ≡ check_word_place }
-    ensures { RecordText text.now result }
+// The record of an exponent and sixteen words.
+fn record_of(exponent: u32, words: [u32; 16]) -> Matrix
+    ensures { result ≡ record_of exponent (map (λ w. cast_signed w32 w) words) }
 {
-    let exponent = number(&text[..2]);
-    let list = coefficients(&text[2..]);
+    let list = words.map(|word| i64::from(word.cast_signed()));
     coefficients::record_of(exponent, &list)
 }
 
@@ -199,15 +142,14 @@ fn read_digits(text: &[u8]) -> Result<Matrix, Refusal>
     requires text_len { length text.now ≡ frame_length }
     ensures { FrameToMatrix text.now (said result) }
 {
-    let m = read_record(&text[..CHECK_WORD_PLACE]);
-    let check = number(&text[CHECK_WORD_PLACE..]);
-    if check != check_word(m) {
+    let exponent = number(&text[..2]);
+    let words = read_words(&text[2..CHECK_WORD_PLACE]);
+    if number(&text[CHECK_WORD_PLACE..]) != check_word(exponent, &words) {
         return Err(Refusal::BadCheckWord);
     }
-    match accept_record::judge(m) {
-        Judgement::Accepted => Ok(m),
-        Judgement::Refused(refusal) => Err(refusal),
-    }
+    let m = record_of(exponent, words);
+    accept_record::judge(m)?;
+    Ok(m)
 }
 
 // Frame to matrix.
@@ -235,12 +177,13 @@ fn write_digits(buffer: &mut [u8], m: Matrix)
     requires in_words { InWords (coefficients m) }
     ensures { buffer.new ≡ put (frame_text m (check_word m)) buffer.old }
 {
+    let words = words_of(m);
     write_number(&mut buffer[..2], m.exponent);
-    write_words(
-        &mut buffer[2..CHECK_WORD_PLACE],
-        coefficients::coefficients(m),
+    write_words(&mut buffer[2..CHECK_WORD_PLACE], &words);
+    write_number(
+        &mut buffer[CHECK_WORD_PLACE..FRAME_LENGTH],
+        check_word(m.exponent, &words),
     );
-    write_number(&mut buffer[CHECK_WORD_PLACE..FRAME_LENGTH], check_word(m));
 }
 
 // Matrix to frame.
@@ -248,16 +191,12 @@ fn write_digits(buffer: &mut [u8], m: Matrix)
 pub fn matrix_to_frame(m: Matrix, buffer: &mut [u8]) -> Result<(), Refusal>
     ensures { MatrixToFrame m buffer.old (said result) buffer.new }
 {
-    match accept_record::judge(m) {
-        Judgement::Refused(refusal) => Err(refusal),
-        Judgement::Accepted => {
-            if buffer.len() < FRAME_LENGTH {
-                return Err(Refusal::NoRoom {
-                    needed: FRAME_LENGTH,
-                });
-            }
-            write_digits(buffer, m);
-            Ok(())
-        }
+    accept_record::judge(m)?;
+    if buffer.len() < FRAME_LENGTH {
+        return Err(Refusal::NoRoom {
+            needed: FRAME_LENGTH,
+        });
     }
+    write_digits(buffer, m);
+    Ok(())
 }

@@ -1,36 +1,14 @@
--- `frame::are_digits` meets its contract. The loop's invariant: if `all` still holds, the text before `i` is of digits alone,
--- and in a text of digits it holds. The measure is what is left of the text. Assumes nothing.
-use Rattle.std.proofs.Common.{sym, refl, ap, ◌∙◌, add-one, take_all, rules}
-use mathlib.Core.Bool.{false≢true}
-use Rattle.lists.specs.List.{none}
-use Rattle.lists.proofs.List.{every_grows, every_member}
-use Rattle.frame.specs.Digit.{is_digit}
+-- `frame::are_digits` meets its contract: the fold keeps whether all bytes so far are digits. Assumes nothing.
+use Rattle.std.proofs.Common.{◌≡◌, true, ◌∙◌, sym, rules}
+use borrow.Author.Tests.{tests}
+use Rattle.std.specs.List.{fold}
+use Rattle.std.proofs.lemmas.Iterator.{YieldsList-from_slice}
+use Rattle.std.proofs.lemmas.Iterator.Consumers.{fold_from_yields_List}
+use Rattle.frame.proofs.Digits.{still_digits, digits_by_fold, fold_of_digits}
 use Rattle.frame.proofs.are_digits.Goals as goal
-use Rattle.frame.proofs.are_digits.Goals.{then-as_digit-b, else-as_digit-b}
-
-pub loop-i-init : goal.loop-i-init
-loop-i-init c = (search rules, λ e. none, λ d. refl)
-
-pub loop-i-preserved : goal.loop-i-preserved
-loop-i-preserved c =
-    let inside = c.loop-i-test.true in
-    let before = c.loop-i.invariant in (
-      search rules,
-      λ still.
-          rw add-one (
-          elim c.if-as_digit-b.branch [
-            | then-as_digit-b w ↦ absurd (false≢true (sym w.all-is ∙ still))
-            | else-as_digit-b w ↦
-                every_grows 0 _ _ inside (before.1 (sym w.all-is ∙ still))
-                (ap is_digit (sym w.if-as_digit-b.false) ∙ c.as_digit.ensures.result_value)
-          ]
-          ),
-      λ digits.
-          elim c.if-as_digit-b.branch [
-            | then-as_digit-b w ↦ absurd (w.if-as_digit-b.true (c.as_digit.ensures.value (every_member 0 digits _ inside)))
-            | else-as_digit-b w ↦ w.all-is ∙ before.2 digits
-          ],
-    )
 
 pub returns : goal.returns
-returns c = ((λ e. rw (take_all _ _ c.loop-i-test.false) at (c.loop-i.invariant.1 e)), c.loop-i.invariant.2)
+returns c =
+    let folded : c.fold.result ≡ fold still_digits true c.args.text.now =
+    fold_from_yields_List _ still_digits true c.fold.result c.fold.ensures.ran (YieldsList-from_slice c.args.text.now cc) (λ a x b q k. search (rules, tests)) in
+    (λ e. digits_by_fold _ (sym folded ∙ e), λ all. folded ∙ fold_of_digits all)

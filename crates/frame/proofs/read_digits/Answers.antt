@@ -1,54 +1,31 @@
 -- `frame::read_digits` meets its contract: the check word is compared before the record is judged. Assumes nothing.
-use Rattle.std.proofs.Common.{◌≡◌, ℕ, List, length, sym, ◌∙◌, subst, arith, length-take-le}
-use Rattle.lists.proofs.List.{every_take}
-use Rattle.matrix.specs.declared.Matrix.{Matrix}
-use Rattle.answer.specs.Limits.{check_word_place}
-use Rattle.accept_record.specs.Accept.{Judged}
-use Rattle.frame.specs.Frame.{check_word, Spells}
+use Rattle.std.proofs.Common.{◌≡◌, ℕ, ◌<◌, ◌^◌, length, get_or, refl, sym, ◌∙◌, rules}
+use Rattle.std.proofs.lemmas.Result.{err_from_is_err_and}
 use Rattle.frame.specs.Calls.{refused_frame, accepted_frame, bad_check_word, bad_record}
-use Rattle.frame.proofs.Parts.{part_digits, part_length, frame_parts}
+use Rattle.frame.proofs.Parts.{frame_read, right_word}
 use Rattle.frame.proofs.read_digits.Goals as goal
 
--- a text that spells a check word spells the right one where the two are equal
-right : {text : List ℕ} {m : Matrix} {check word : ℕ} → check ≡ word → word ≡ check_word m → Spells text m check → Spells text m (check_word m)
-right {text} {m} e f s = subst (Spells text m) (e ∙ f) s
+pub returns-then-number-check_word : goal.returns-then-number-check_word
+returns-then-number-check_word c =
+    let sixteen : length c.read_words-words.result ≡ 16 = search rules in
+    let fit : (i : ℕ) → get_or c.read_words-words.result i 0 < 2 ^ 32 = λ i. search rules in
+    let read = frame_read c.args.text.now _ _ _ c.requires.text_len c.requires.digits c.number-exponent.ensures.value c.number-exponent.ensures.below sixteen fit
+    c.read_words-words.ensures c.number.ensures.value (search rules) refl c.check_word.ensures in
+    refused_frame (bad_check_word read.spells (λ same. c.if-number-check_word.true (same ∙ sym read.right)))
 
-pub slice_bounds-read_record-end : goal.slice_bounds-read_record-end
-slice_bounds-read_record-end c = sym (length-take-le check_word_place c.args.text.now (omega arith))
+pub returns-in_err-judge : goal.returns-in_err-judge
+returns-in_err-judge c =
+    let sixteen : length c.read_words-words.result ≡ 16 = search rules in
+    let fit : (i : ℕ) → get_or c.read_words-words.result i 0 < 2 ^ 32 = λ i. search rules in
+    let read = frame_read c.args.text.now _ _ _ c.requires.text_len c.requires.digits c.number-exponent.ensures.value c.number-exponent.ensures.below sixteen fit
+    c.read_words-words.ensures c.number.ensures.value (search rules) c.record_of-m.ensures c.check_word.ensures in
+    let err = err_from_is_err_and c.from_residual.result c.from_residual.ensures.1 in
+    rw (err.1, err.2) (refused_frame (bad_record (right_word read c.if-number-check_word.false) c.in_err-judge.ensures))
 
-pub read_record-m-requires : goal.read_record-m-requires
-read_record-m-requires c = record { digits = every_take check_word_place c.requires.digits; text_len = length-take-le check_word_place c.args.text.now (omega arith) }
-
-pub number-check-requires : goal.number-check-requires
-number-check-requires c =
-    let text = c.args.text.now in
-    record {
-      digits = part_digits check_word_place (length text) text c.requires.digits;
-      text_len_bound = omega (arith, part_length check_word_place (length text) text (omega arith) (omega arith));
-    }
-
-pub check_word-requires : goal.check_word-requires
-check_word-requires c = (frame_parts c.requires.text_len c.read_record-m.ensures c.number-check.ensures).coefficients
-
-pub returns-then-check-check_word : goal.returns-then-check-check_word
-returns-then-check-check_word c =
-    refused_frame (
-    bad_check_word
-    (frame_parts c.requires.text_len c.read_record-m.ensures c.number-check.ensures)
-    (λ e. c.if-check-check_word.true (e ∙ sym c.check_word.ensures))
-    )
-
-pub returns-in-Accepted : goal.returns-in-Accepted
-unfolding Judged
-returns-in-Accepted c =
-    let spells = frame_parts c.requires.text_len c.read_record-m.ensures c.number-check.ensures in
-    accepted_frame (record {
-      spells = right c.if-check-check_word.false c.check_word.ensures spells;
-      record_accepted = c.in-Accepted.ensures;
-    })
-
-pub returns-in-Refused : goal.returns-in-Refused
-unfolding Judged
-returns-in-Refused c =
-    let spells = frame_parts c.requires.text_len c.read_record-m.ensures c.number-check.ensures in
-    refused_frame (bad_record (right c.if-check-check_word.false c.check_word.ensures spells) c.in-Refused.ensures)
+pub returns : goal.returns
+returns c =
+    let sixteen : length c.read_words-words.result ≡ 16 = search rules in
+    let fit : (i : ℕ) → get_or c.read_words-words.result i 0 < 2 ^ 32 = λ i. search rules in
+    let read = frame_read c.args.text.now _ _ _ c.requires.text_len c.requires.digits c.number-exponent.ensures.value c.number-exponent.ensures.below sixteen fit
+    c.read_words-words.ensures c.number.ensures.value (search rules) c.record_of-m.ensures c.check_word.ensures in
+    accepted_frame (record { spells = right_word read c.if-number-check_word.false; record_accepted = c.in_ok-judge.ensures })

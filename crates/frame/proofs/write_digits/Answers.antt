@@ -1,13 +1,13 @@
 -- `frame::write_digits` meets its contract: three parts are put one after the other, and the bytes after them stay.
 -- Assumes nothing.
-use Rattle.std.proofs.Common.{◌≡◌, ℕ, ◌+◌, ◌≤◌, List, ◌++◌, length, take, drop, ℤ, sym, ap, ◌∙◌, subst, ap₂, append_assoc, arith, length-append, length-take-le}
+use Rattle.std.proofs.Common.{◌≡◌, ℕ, ◌+◌, ◌%◌, ◌^◌, ◌≤◌, List, ◌++◌, length, take, drop, sym, ap, ◌∙◌, ap₂, append_assoc, arith, length-append, length-take-le}
 use borrow.Rule.Slice.PartMut.{put_mid}
 use Rattle.matrix.specs.declared.Matrix.{Matrix}
 use Rattle.answer.specs.Limits.{frame_length}
 use Rattle.answer.specs.Written.{put}
 use Rattle.coefficients.specs.Coefficients.{coefficients}
 use Rattle.frame.specs.Digit.{digits}
-use Rattle.frame.specs.Frame.{words, words_text, check_word, frame_text, InWords}
+use Rattle.frame.specs.Frame.{words, words_text, total, check_word, frame_text}
 use Rattle.frame.proofs.Digits.{digits_length}
 use Rattle.frame.proofs.Spelled.{record_text_length, frame_text_length}
 use Rattle.frame.proofs.Parts.{put_more, after_front}
@@ -43,23 +43,23 @@ module _ (m : Matrix) (before first second : List ℕ) (room : frame_length ≤ 
 as_long : {part : List ℕ} {size k : ℕ} (n : ℕ) → part ≡ digits size n → size ≡ k → part ≡ digits k n
 as_long n e f = e ∙ ap (λ (k : ℕ). digits k n) f
 
-pub slice_bounds-write_number-end-2 : goal.slice_bounds-write_number-end-2
-slice_bounds-write_number-end-2 c = sym (length-take-le 2 c.args.buffer.now (omega arith))
+-- the check word is the sum of the record's words
+sum_is : {sum : ℕ} (m : Matrix) (ws : List ℕ) → sum ≡ (m.exponent + total ws) % 2 ^ 32 → ws ≡ words (coefficients m) → sum ≡ check_word m
+unfolding check_word
+sum_is m ws e f = e ∙ ap (λ (s : List ℕ). (m.exponent + total s) % 2 ^ 32) f
 
 pub write_words-requires : goal.write_words-requires
 write_words-requires c =
     let first = as_long _ c.write_number.ensures (length-take-le 2 c.args.buffer.now (omega arith)) in
-    record {
-      part_len = after_front c.write_number.new.part c.args.buffer.now 2 128 (ap length first ∙ digits_length 2 _) (omega arith);
-      in_words = subst InWords (sym c.coefficients.ensures) c.requires.in_words;
-    }
+    after_front c.write_number.new.part c.args.buffer.now 2 128 (ap length first ∙ digits_length 2 _) (omega arith)
 
 pub returns : goal.returns
 returns c =
     let m = c.args.m in
     let buffer = c.args.buffer.now in
     let room = c.requires.frame_length_in_bounds in
+    let ws = c.words_of-words.ensures in
     let e = as_long _ c.write_number.ensures (length-take-le 2 buffer (omega arith)) in
-    let f = c.write_words.ensures ∙ ap (λ (list : List ℤ). words_text (words list)) c.coefficients.ensures in
+    let f = c.write_words.ensures ∙ ap words_text ws in
     three_parts m buffer c.write_number.new.part c.write_words.new.part room e f c.write_number-2.new.part
-    (c.write_number-2.ensures ∙ ap₂ digits (eight m buffer c.write_number.new.part c.write_words.new.part room e f) c.check_word.ensures)
+    (c.write_number-2.ensures ∙ ap₂ digits (eight m buffer c.write_number.new.part c.write_words.new.part room e f) (sum_is m _ c.check_word.ensures ws))

@@ -1,6 +1,6 @@
--- `frame::write_number` meets its contract. The loop's invariant: what is written from `i` on ends the digits of the number,
--- and what is left of it has `i` digits. The measure is `i`. Assumes nothing.
-use Rattle.std.proofs.Common.{◌≡◌, ℕ, suc, ◌-◌, ◌/◌, ◌%◌, ◌<◌, List, ◌∷◌, ◌++◌, length, take, drop, set, sym, refl, ap, ◌∙◌, append-nil, arith, length-set, length-take-le, drop_at, rules}
+-- `frame::write_number` meets its contract. The loop's invariant: what is written from the loop's place on ends the digits of
+-- the number, and what is left of it has as many digits as are not yet written. Assumes nothing.
+use Rattle.std.proofs.Common.{◌≡◌, ℕ, suc, ◌-◌, ◌/◌, ◌%◌, ◌<◌, List, ◌∷◌, ◌++◌, length, take, drop, set, sym, refl, ap, ◌∙◌, append-nil, arith, length-set, length-take-le, drop_at}
 use lib.Seq.{set_split, drop-length, append_snoc}
 use Rattle.frame.specs.Digit.{digit, digits}
 use Rattle.frame.proofs.write_number.Goals as goal
@@ -18,28 +18,29 @@ written part j rest h =
 pub loop-i-init : goal.loop-i-init
 loop-i-init c =
     let part = c.args.part.now in
-    (refl, search rules, sym (ap (λ (s : List ℕ). digits (length part) c.args.n ++ s) (drop-length part) ∙ append-nil _))
+    record {
+      long = refl;
+      left = sym (ap (λ (s : List ℕ). digits (length part) c.args.n ++ s) (drop-length part) ∙ append-nil _);
+    }
 
 pub loop-i-preserved : goal.loop-i-preserved
 loop-i-preserved c =
     let l = c.loop-i in
-    let t = c.loop-i-test.true in
     let j = l.i - 1 in
-    let e : l.i ≡ suc j = omega arith in (
-      length-set l.part j c.digit_of.result ∙ l.invariant.0,
-      rw length-set (omega arith),
-      l.invariant.2
+    let test = c.loop-i-test.true in
+    let e : l.i ≡ suc j = omega arith in
+    record {
+      long = length-set l.part j c.digit_of.result ∙ l.invariant.long;
+      left =
+          l.invariant.left
           ∙ ap (λ (k : ℕ). digits k l.rest ++ drop k l.part) e
           ∙ written l.part j l.rest (omega arith)
-          ∙ ap (λ (b : ℕ). digits j (l.rest / 16) ++ drop j (set l.part j b)) (sym c.digit_of.ensures),
-    )
-
-pub shape_of-part : goal.shape_of-part
-shape_of-part c = c.loop-i.invariant.0
+          ∙ ap (λ (b : ℕ). digits j (l.rest / 16) ++ drop j (set l.part j b)) (sym c.digit_of.ensures);
+    }
 
 pub returns : goal.returns
 unfolding digits
 returns c =
     let l = c.loop-i in
     let e : l.i ≡ 0 = omega arith in
-    sym (l.invariant.2 ∙ ap (λ (k : ℕ). digits k l.rest ++ drop k l.part) e)
+    sym (l.invariant.left ∙ ap (λ (k : ℕ). digits k l.rest ++ drop k l.part) e)
