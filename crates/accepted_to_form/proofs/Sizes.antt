@@ -6,7 +6,7 @@ use lib.IntN.{ℤ, nat_abs}
 use lib.Pow.{pow_mono}
 use Rattle.ring.specs.Bounds.{Bounded}
 use Rattle.matrix.proofs.Small.{root_at_most, square}
-use Rattle.complete.specs.declared.Vector.{Vector}
+use Rattle.ring.specs.declared.Vector.{Vector}
 use Rattle.complete.proofs.Norm.{Norm, norm_squares}
 use Rattle.turn.specs.Room.{RoomyVector}
 

@@ -8,7 +8,7 @@ use lib.Seq.{take_at, length-take-le}
 use Rattle.matrix.specs.declared.Matrix.{Matrix}
 use Rattle.matrix.specs.Matrix.{Unitary}
 use Rattle.complete.specs.declared.Rest.{Rest}
-use Rattle.complete.specs.declared.Vector.{Vector}
+use Rattle.ring.specs.declared.Vector.{Vector}
 use Rattle.complete.specs.Vector.{vector_of}
 use Rattle.complete.specs.Descent.{rest, syllable_taken, past_syllable, word_below}
 use Rattle.complete.proofs.Complete.{guided_of_unitary, word_letters, word_means}

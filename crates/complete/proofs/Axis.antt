@@ -13,9 +13,10 @@ use Rattle.algebra.proofs.Parity.{odd_times, odd_negate}
 use Rattle.algebra.proofs.Cancellation.{square_size, square_zero}
 use Rattle.matrix.specs.Letter.{H, S, X}
 use Rattle.matrix.proofs.Small.{square}
-use Rattle.complete.specs.declared.Vector.{Vector}
+use Rattle.ring.specs.declared.Vector.{Vector}
 use Rattle.complete.specs.declared.Rest.{Rest}
-use Rattle.complete.specs.Vector.{Guided, number, negated}
+use Rattle.ring.specs.Real.{number, negated}
+use Rattle.complete.specs.Vector.{Guided}
 use Rattle.complete.specs.Descent.{without_S, without_H, without_X, odd_x, odd_y, off_y, off_x, downward, turned_up, axis_taken, upright, vector_without_S, vector_without_H, vector_without_X}
 use Rattle.complete.proofs.Norm.{Norm, norm_squares}
 use Rattle.complete.proofs.Syllable.{norm_of_guided, S_guided, H_guided, X_guided, guided_either, Restores, restores_nothing, restores_append, restores_either, S_restores, H_restores, X_restores}

@@ -13,7 +13,7 @@ use Rattle.lists.proofs.List.{every_join, every_replicate}
 use Rattle.algebra.proofs.Solver.{var, con, ◌⊕◌, ◌⊗◌, ⊖◌, combine, given, done}
 use Rattle.ring.specs.declared.Element.{Element}
 use Rattle.ring.specs.Element.{one, omega2, sum, product, multiple, turned, negation, conjugate, size_whole, size_root2, root2_power}
-use Rattle.ring.proofs.Formal.{formal, ◌+ᶠ◌, -ᶠ◌, ◌*ᶠ◌, conjugateᶠ, xᶠ, coefficients, coefficientwise}
+use Rattle.ring.proofs.Formal.{formal, ◌+ᶠ◌, -ᶠ◌, ◌*ᶠ◌, conjugateᶠ, realᶠ, xᶠ, coefficients, coefficientwise}
 use Rattle.ring.proofs.Ring.{elements, product_comm, product_one, conjugate_product, conjugate_conjugate}
 use Rattle.matrix.specs.declared.Matrix.{Matrix}
 use Rattle.matrix.specs.Matrix.{Same, Unitary}
@@ -24,10 +24,10 @@ use Rattle.matrix.proofs.Unitary.{isometry_of_unitary, unitary_same, unitary_mat
 use Rattle.form.specs.Count.{t_count}
 use Rattle.form.proofs.Count.{t_count_append, t_count_replicate}
 use Rattle.complete.specs.declared.Rest.{Rest}
-use Rattle.complete.specs.declared.Real.{Real}
-use Rattle.complete.specs.Vector.{number, real, vector_of, two, Guided}
+use Rattle.ring.specs.declared.Real.{Real}
+use Rattle.ring.specs.Real.{number, real}
+use Rattle.complete.specs.Vector.{vector_of, two, Guided}
 use Rattle.complete.specs.Descent.{rest, if_taken, odd_x, odd_y, odd_z, past_S, past_H, syllable_taken, past_syllable, off_y, off_x, downward, axis_taken, upright, turn, phases_text, diagonal_text, phase, word_below, word_of}
-use Rattle.complete.proofs.Norm.{realᶠ}
 use Rattle.complete.proofs.Syllable.{Restores, past_syllable_guided, syllable_restores}
 use Rattle.complete.proofs.Axis.{upright_guided, upright_up, axis_restores}
 use Rattle.complete.proofs.Unit.{size_real}

@@ -21,7 +21,8 @@ use Rattle.matrix.specs.Letter.{S, T, W, gate, gate_S, gate_T, gate_W, matrix_of
 use Rattle.matrix.proofs.Entries.{equal_entries}
 use Rattle.matrix.proofs.Unitary.{Isometry, isometry_of_unitary}
 use Rattle.complete.specs.declared.Rest.{Rest}
-use Rattle.complete.specs.Vector.{number, real, two, Guided}
+use Rattle.ring.specs.Real.{number, real}
+use Rattle.complete.specs.Vector.{two, Guided}
 use Rattle.complete.specs.Descent.{phase, turn, phases_text, diagonal_text}
 use Rattle.complete.proofs.Unit.{size_real, OfSize, omega_power, phase_of_size}
 

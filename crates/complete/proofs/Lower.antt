@@ -12,17 +12,17 @@ use Rattle.algebra.proofs.Parity.{differ, differ_same, even_half, odd_plus, odd_
 use Rattle.algebra.proofs.Cancellation.{double_cancel}
 use Rattle.ring.specs.declared.Element.{Element}
 use Rattle.ring.specs.Element.{element, one, omega as ω, omega2, root2, sum, product, multiple, turned, negation, conjugate, root2_power}
-use Rattle.ring.proofs.Formal.{◌+ᶠ◌, -ᶠ◌, ◌*ᶠ◌, root2ᶠ, coefficientwise}
+use Rattle.ring.proofs.Formal.{◌+ᶠ◌, -ᶠ◌, ◌*ᶠ◌, root2ᶠ, realᶠ, coefficientwise}
 use Rattle.ring.proofs.Ring.{elements}
 use Rattle.matrix.specs.Matrix.{times}
 use Rattle.matrix.specs.Letter.{gate_T}
 use Rattle.matrix.proofs.Unitary.{Isometry}
-use Rattle.complete.specs.declared.Real.{Real}
+use Rattle.ring.specs.declared.Real.{Real}
 use Rattle.complete.specs.declared.Rest.{Rest}
-use Rattle.complete.specs.Vector.{real, over_root2, half_sum, half_difference, Bloch, Led}
+use Rattle.ring.specs.Real.{real, over_root2, half_sum, half_difference}
+use Rattle.complete.specs.Vector.{Bloch, Led}
 use Rattle.complete.specs.Descent.{turned_back, without_T, lowered, record_without_T, vector_without_T, vector_lowered}
 use Rattle.complete.proofs.Turn.{omega_unit, omega2_squared, back_product, conjugate_back, phase_restored, phase_isometry, phase_bloch}
-use Rattle.complete.proofs.Norm.{realᶠ}
 
 -- a number with an even whole part is √2 times another
 pub real_over_root2 : (r : Real) → odd r.whole ≡ false → real r ≡ product root2 (real (over_root2 r))

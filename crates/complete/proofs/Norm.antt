@@ -1,9 +1,9 @@
--- The vector of a column has the length that its exponent says: the two equations of its numerators follow from the
--- determinant of the column's products, which is zero. Read modulo two they say which numerators are odd together.
+-- The vector of a column has the length that its exponent says: the two equations of its parts_of follow from the
+-- determinant of the column's products, which is zero. Read modulo two they say which parts_of are odd together.
 -- Assumes nothing.
 use mathlib.Core.Path.{◌≡◌, refl, ap, ap₂, sym, ◌∙◌}
 use mathlib.Core.Bool.{Bool, true, false, ◌&&◌, true≢false, false≢true}
-use mathlib.Core.List.{List, [], ◌∷◌}
+use mathlib.Core.List.{[], ◌∷◌}
 use Prim.Native.Nat.{ℕ, suc, ◌+◌, ◌*◌, ◌^◌}
 use native.Mathlib.Nat.{pow-suc}
 use native.Mathlib.Omega.{arith}
@@ -15,13 +15,14 @@ use Rattle.algebra.proofs.Parity.{differ, odd_equation}
 use Rattle.algebra.proofs.Cancellation.{double_cancel, square_size}
 use Rattle.ring.specs.declared.Element.{Element}
 use Rattle.ring.specs.Element.{element, omega2, sum, product, multiple, turned, conjugate}
-use Rattle.ring.proofs.Formal.{Formal, formal, ◌+ᶠ◌, ◌*ᶠ◌, coefficientwise}
+use Rattle.ring.proofs.Formal.{◌+ᶠ◌, ◌*ᶠ◌, realᶠ, parts_of, coefficientwise}
 use Rattle.ring.proofs.Ring.{elements, whole_element}
 use Rattle.ring.proofs.Root2.{root2_power_cancel, root2_power_plus, two_power}
 use Rattle.matrix.proofs.Small.{square}
-use Rattle.complete.specs.declared.Vector.{Vector}
+use Rattle.ring.specs.declared.Vector.{Vector}
 use Rattle.complete.specs.declared.Rest.{Rest}
-use Rattle.complete.specs.Vector.{real, Bloch, Led}
+use Rattle.ring.specs.Real.{real}
+use Rattle.complete.specs.Vector.{Bloch, Led}
 use Rattle.complete.proofs.Turn.{omega2_squared}
 
 -- the determinant: x² + y² + z² = n², once the scale is cancelled
@@ -49,23 +50,16 @@ whole_partᶠ = var 0 ⊗ var 0 ⊕ var 2 ⊗ var 2 ⊕ var 4 ⊗ var 4 ⊕ con 
 abbrev root2_partᶠ : Expr
 root2_partᶠ = var 0 ⊗ var 1 ⊕ var 2 ⊗ var 3 ⊕ var 4 ⊗ var 5
 
--- a number of Z[√2], whose coefficients are expressions
-abbrev pub realᶠ : Expr → Expr → Formal
-realᶠ a b = formal a b (con (pos 0)) (⊖ b)
-
-abbrev numerators : Vector → List ℤ
-numerators v = v.x.whole ∷ v.x.root2 ∷ v.y.whole ∷ v.y.root2 ∷ v.z.whole ∷ v.z.root2 ∷ []
-
 squares : (v : Vector) →
     sum (sum (product (real v.x) (real v.x)) (product (real v.y) (real v.y))) (product (real v.z) (real v.z))
-    ≡ element (value whole (numerators v) whole_partᶠ) (value whole (numerators v) (root2_partᶠ ⊕ root2_partᶠ)) (pos 0) (neg_ℤ (value whole (numerators v) (root2_partᶠ ⊕ root2_partᶠ)))
+    ≡ element (value whole (parts_of v) whole_partᶠ) (value whole (parts_of v) (root2_partᶠ ⊕ root2_partᶠ)) (pos 0) (neg_ℤ (value whole (parts_of v) (root2_partᶠ ⊕ root2_partᶠ)))
 unfolding sum product multiple turned real
 squares v =
-    coefficientwise (numerators v)
+    coefficientwise (parts_of v)
     ((realᶠ (var 0) (var 1) *ᶠ realᶠ (var 0) (var 1) +ᶠ realᶠ (var 2) (var 3) *ᶠ realᶠ (var 2) (var 3)) +ᶠ realᶠ (var 4) (var 5) *ᶠ realᶠ (var 4) (var 5))
     (realᶠ whole_partᶠ (root2_partᶠ ⊕ root2_partᶠ)) (tt, tt, tt, tt)
 
--- the numerators a + b√2, c + d√2, e + f√2 of a vector over (√2)^n: a² + c² + e² + 2(b² + d² + f²) = 2^n, ab + cd + ef = 0
+-- the parts_of a + b√2, c + d√2, e + f√2 of a vector over (√2)^n: a² + c² + e² + 2(b² + d² + f²) = 2^n, ab + cd + ef = 0
 pub record Norm (v : Vector) (n : ℕ) : Type 0 where
   pub whole_squares :
       v.x.whole *ℤ v.x.whole +ℤ v.y.whole *ℤ v.y.whole +ℤ v.z.whole *ℤ v.z.whole
@@ -78,7 +72,7 @@ norm_of_led r d n b =
     let e = sym (squares r.vector) ∙ squares_of_led r d n b in
     record {
       whole_squares = ap (λ (z : Element). z.a0) e;
-      no_root2 = double_cancel (value whole (numerators r.vector) root2_partᶠ) (pos 0) (ap (λ (z : Element). z.a1) e);
+      no_root2 = double_cancel (value whole (parts_of r.vector) root2_partᶠ) (pos 0) (ap (λ (z : Element). z.a1) e);
     }
 
 -- the first of the two, between natural numbers
@@ -113,7 +107,7 @@ pub odd_together : {v : Vector} {n : ℕ} → Norm v n → odd v.x.whole ≡ tru
     odd v.x.root2 ≡ odd v.y.root2
 odd_together {v} l x y z =
     bits_of (odd v.x.whole) (odd v.x.root2) (odd v.y.whole) (odd v.y.root2) (odd v.z.whole) (odd v.z.root2) x y z
-    (odd_equation (numerators v) root2_partᶠ (con (pos 0)) l.no_root2)
+    (odd_equation (parts_of v) root2_partᶠ (con (pos 0)) l.no_root2)
   where
     bits_of : (a b c d e f : Bool) → a ≡ true → c ≡ true → e ≡ false → differ (differ (a && b) (c && d)) (e && f) ≡ false → b ≡ d
     bits_of true false true false false f x y z h = refl

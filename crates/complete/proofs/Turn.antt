@@ -18,9 +18,10 @@ use Rattle.matrix.specs.Matrix.{matrix, times, Same, EqualOver, column_product}
 use Rattle.matrix.specs.Letter.{gate_H, gate_S, gate_X}
 use Rattle.matrix.proofs.Entries.{equal_entries}
 use Rattle.matrix.proofs.Unitary.{Isometry}
-use Rattle.complete.specs.declared.Real.{Real}
+use Rattle.ring.specs.declared.Real.{Real}
 use Rattle.complete.specs.declared.Rest.{Rest}
-use Rattle.complete.specs.Vector.{real, negated, two, Bloch, Led}
+use Rattle.ring.specs.Real.{real, negated}
+use Rattle.complete.specs.Vector.{two, Bloch, Led}
 use Rattle.complete.specs.Descent.{turned_back, difference, without_S, without_H, without_X, record_without_S, vector_without_S, record_without_H, vector_without_H, record_without_X, vector_without_X}
 
 -- ---- ω⁻¹, i and √2

@@ -16,15 +16,14 @@ use Rattle.algebra.proofs.Parity.{differ, odd_equation}
 use Rattle.algebra.proofs.Cancellation.{square_size, square_zero}
 use Rattle.ring.specs.declared.Element.{Element}
 use Rattle.ring.specs.Element.{element, one, omega as ω, root2, sum, product, multiple, turned, conjugate, size_whole, size_root2, root2_power}
-use Rattle.ring.proofs.Formal.{◌*ᶠ◌, conjugateᶠ, xᶠ, coefficients, coefficientwise}
+use Rattle.ring.proofs.Formal.{◌*ᶠ◌, conjugateᶠ, realᶠ, xᶠ, coefficients, coefficientwise}
 use Rattle.ring.proofs.Ring.{elements, conjugate_product, product_assoc}
 use Rattle.ring.proofs.Root2.{root2_twice, root2_cancel, two_power, conjugate_root2}
 use Rattle.ring.proofs.Divided.{over_root2 as divided, EvenPairs, divides}
 use Rattle.matrix.proofs.Small.{square, size_is_squares}
 use Rattle.form.proofs.Every.{every, every_at}
-use Rattle.complete.specs.Vector.{number, real}
+use Rattle.ring.specs.Real.{number, real}
 use Rattle.complete.specs.Descent.{by_sign, phase}
-use Rattle.complete.proofs.Norm.{realᶠ}
 
 -- an element times its conjugate is a number of Z[√2], its squared size
 pub size_real : (x : Element) → product x (conjugate x) ≡ real (number (size_whole x) (size_root2 x))

@@ -10,8 +10,9 @@ use Rattle.matrix.specs.declared.Matrix.{Matrix}
 use Rattle.matrix.specs.Matrix.{matrix}
 use Rattle.matrix.specs.Letter.{H, S, T, W, X}
 use Rattle.complete.specs.declared.Rest.{Rest}
-use Rattle.complete.specs.declared.Vector.{Vector}
-use Rattle.complete.specs.Vector.{vector, negated, over_root2, half_sum, half_difference, vector_of}
+use Rattle.ring.specs.declared.Vector.{Vector}
+use Rattle.ring.specs.Real.{vector, negated, over_root2, half_sum, half_difference}
+use Rattle.complete.specs.Vector.{vector_of}
 
 -- ---- one letter
 -- ω⁻¹ times an element

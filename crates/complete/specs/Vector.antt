@@ -1,39 +1,13 @@
 -- The Bloch vector of a record's first column (document 01, "Numbers and matrices": 003 leads its proof by such vectors):
 -- three numbers of Z[√2] over a power of √2, and what they have to do with the record.
-use Rattle.std.specs.Prelude.{ℕ, ◌≡◌, ℤ, pos, ◌+ℤ◌, ◌-ℤ◌, neg_ℤ}
-use Rattle.algebra.specs.Parity.{half}
+use Rattle.std.specs.Prelude.{ℕ, ◌≡◌, pos, ◌+ℤ◌, ◌-ℤ◌}
 use Rattle.ring.specs.declared.Element.{Element}
 use Rattle.ring.specs.Element.{element, omega2, sum, negation, product, conjugate, size_whole, size_root2, root2_power}
+use Rattle.ring.specs.Real.{number, real, vector}
 use Rattle.matrix.specs.declared.Matrix.{Matrix}
 use Rattle.matrix.specs.Matrix.{Unitary}
-use Rattle.complete.specs.declared.Real.{Real}
-use Rattle.complete.specs.declared.Vector.{Vector}
+use Rattle.ring.specs.declared.Vector.{Vector}
 use Rattle.complete.specs.declared.Rest.{Rest}
-
--- whole + root2·√2
-abbrev pub number : ℤ → ℤ → Real
-number w r = record { whole = w; root2 = r }
-
--- that number as a ring element: √2 = ω − ω³
-unfoldable pub real : Real → Element
-real r = element r.whole r.root2 (pos 0) (neg_ℤ r.root2)
-
-abbrev pub vector : Real → Real → Real → Vector
-vector x y z = record { x = x; y = y; z = z }
-
-unfoldable pub negated : Real → Real
-negated r = number (neg_ℤ r.whole) (neg_ℤ r.root2)
-
--- a number whose whole part is even, divided by √2
-unfoldable pub over_root2 : Real → Real
-over_root2 r = number r.root2 (half r.whole)
-
--- half of a sum and of a difference, where it is a number of Z[√2]
-unfoldable pub half_sum : Real → Real → Real
-half_sum r s = number (half (r.whole +ℤ s.whole)) (half (r.root2 +ℤ s.root2))
-
-unfoldable pub half_difference : Real → Real → Real
-half_difference r s = number (half (r.whole -ℤ s.whole)) (half (r.root2 -ℤ s.root2))
 
 -- the ring element two
 abbrev pub two : Element

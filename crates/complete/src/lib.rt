@@ -3,21 +3,7 @@
 #![tactic(auto)]
 
 use matrix::Matrix;
-
-// A number of Z[√2]: whole + root2·√2.
-#[derive(Clone, Copy)]
-pub struct Real {
-    pub whole: i64,
-    pub root2: i64,
-}
-
-// The numerators of a Bloch vector, over a power of √2.
-#[derive(Clone, Copy)]
-pub struct Vector {
-    pub x: Real,
-    pub y: Real,
-    pub z: Real,
-}
+use ring::Vector;
 
 // What is left of a record when letters are taken off its left, with the vector of its first column.
 #[derive(Clone, Copy)]

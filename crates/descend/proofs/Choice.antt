@@ -7,8 +7,8 @@ use Rattle.ring.proofs.Bounds.{stored, kept}
 use Rattle.turn.specs.Room.{RoomyRest}
 use Rattle.complete.specs.declared.Rest.{Rest}
 use Rattle.matrix.specs.declared.Matrix.{Matrix}
-use Rattle.complete.specs.declared.Vector.{Vector}
-use Rattle.complete.specs.Descent.{rest, record_without_X, vector_without_X, without_X, turned_up}
+use Rattle.ring.specs.declared.Vector.{Vector}
+use Rattle.complete.specs.Descent.{rest, without_X, turned_up}
 
 pub taken : {A : Type 0} {t u : Bool} {x r : A} (y : A) → t ≡ u → t ≡ true → r ≡ x → r ≡ cond u x y
 taken {x = x} y e h f = f ∙ sym (ap (λ (b : Bool). cond b x y) (sym e ∙ h))
@@ -21,10 +21,9 @@ pub equal_rests : {m n : Matrix} {v w : Vector} → m ≡ n → v ≡ w → rest
 equal_rests e f = λ i. rest (e i) (f i)
 
 -- a rest with its vector below the plane is turned up, and any other stays
-pub turned_up_below : {r : Rest} {m : Matrix} {v : Vector} → RoomyRest r → lt_z (stored r.vector.z.whole) (pos 0) ≡ true →
-    m ≡ record_without_X r.matrix → v ≡ vector_without_X r.vector → rest m v ≡ turned_up r
+pub turned_up_below : {r up : Rest} → RoomyRest r → lt_z (stored r.vector.z.whole) (pos 0) ≡ true → up ≡ without_X r → up ≡ turned_up r
 unfolding turned_up
-turned_up_below {r = r} room below e f = taken r (ap (λ (z : ℤ). lt_z z (pos 0)) (kept room.vector.z.whole)) below (equal_rests e f)
+turned_up_below {r = r} room below e = taken r (ap (λ (z : ℤ). lt_z z (pos 0)) (kept room.vector.z.whole)) below e
 
 pub turned_up_not_below : {r : Rest} → RoomyRest r → lt_z (stored r.vector.z.whole) (pos 0) ≡ false → r ≡ turned_up r
 unfolding turned_up

@@ -8,7 +8,7 @@ use Rattle.ring.specs.declared.Element.{Element}
 use Rattle.ring.specs.Element.{sum, negation, product, conjugate, size_whole, size_root2}
 use Rattle.ring.specs.Bounds.{Small}
 use Rattle.ring.proofs.Bounds.{stored, kept, small_more, small_negation, small_sum}
-use Rattle.complete.specs.Vector.{number, real}
+use Rattle.ring.specs.Real.{number, real}
 use Rattle.complete.proofs.Unit.{size_real}
 
 pub roomy : {r : Element} → Small (2 ^ 60) r → Small (2 ^ 61) r

@@ -5,13 +5,15 @@ ghost use Rattle.std.specs.Prelude.{◌&&◌, ◌≡◌, ◌^◌, ◌+ℤ◌, �
 ghost use Rattle.algebra.specs.Parity.{odd};
 ghost use Rattle.ring.specs.Element.{size_whole, size_root2};
 ghost use Rattle.ring.specs.Bounds.{Small};
-ghost use Rattle.complete.specs.Vector.{number, vector_of};
-ghost use Rattle.complete.specs.Descent.{without_S, without_H, past_S, past_H, past_T, off_y, off_x, turned_up, by_sign, phase};
+ghost use Rattle.ring.specs.Real.{number};
+ghost use Rattle.complete.specs.Vector.{vector_of};
+ghost use Rattle.complete.specs.Descent.{without_S, without_H, without_X, without_T, lowered, past_S, past_H, past_T, off_y, off_x, turned_up, by_sign, phase};
 ghost use Rattle.turn.specs.Room.{RoomyRest};
 
-use complete::{Real, Rest, Vector};
+use complete::Rest;
 use matrix::Matrix;
-use ring::Element;
+use ring::{Element, Real, Vector};
+use std::cmp::Ordering;
 
 // 2·p = x + iy: x, and y.
 fn x_of(p: Element) -> Real
@@ -69,18 +71,16 @@ pub fn vector_of(m: Matrix) -> Vector
 pub fn odd_pair(a: Real, b: Real) -> bool
     ensures { result ≡ odd a.whole && odd b.whole }
 {
-    ring::odd(a.whole) && ring::odd(b.whole)
+    a.is_odd() && b.is_odd()
 }
 
 fn without_s(r: Rest) -> Rest
     requires { RoomyRest r }
     ensures { result ≡ without_S r }
 {
-    let matrix = r.matrix;
-    let vector = r.vector;
     Rest {
-        matrix: turn::record_without_s(matrix),
-        vector: turn::vector_without_s(vector),
+        matrix: turn::record_without_s(r.matrix),
+        vector: turn::vector_without_s(r.vector),
     }
 }
 
@@ -88,74 +88,94 @@ fn without_h(r: Rest) -> Rest
     requires { RoomyRest r }
     ensures { result ≡ without_H r }
 {
-    let matrix = r.matrix;
-    let vector = r.vector;
     Rest {
-        matrix: turn::record_without_h(matrix),
-        vector: turn::vector_without_h(vector),
+        matrix: turn::record_without_h(r.matrix),
+        vector: turn::vector_without_h(r.vector),
     }
 }
 
+fn without_x(r: Rest) -> Rest
+    requires { RoomyRest r }
+    ensures { result ≡ without_X r }
+{
+    Rest {
+        matrix: turn::record_without_x(r.matrix),
+        vector: turn::vector_without_x(r.vector),
+    }
+}
+
+fn without_t(r: Rest) -> Rest
+    requires { RoomyRest r }
+    ensures { result ≡ without_T r }
+{
+    Rest {
+        matrix: turn::record_without_t(r.matrix),
+        vector: turn::vector_without_t(r.vector),
+    }
+}
+
+fn lowered(r: Rest) -> Rest
+    ensures { result ≡ lowered r }
+{
+    Rest {
+        vector: turn::vector_lowered(r.vector),
+        ..r
+    }
+}
+
+// Each step is one `if`: a function that takes its test and what it takes off would hold no less, `past(test, r, without_s)`.
 // Above exponent 0: S taken off where x and z are odd, then H where y and z are, then T where x and y are.
+#[tactic(auto, unfolding(complete::specs::Descent::past_S))]
 pub fn past_s(r: Rest) -> Rest
     requires { RoomyRest r }
     ensures { result ≡ past_S r }
 {
-    let v = r.vector;
-    if odd_pair(v.x, v.z) {
-        return without_s(r);
+    if odd_pair(r.vector.x, r.vector.z) {
+        without_s(r)
+    } else {
+        r
     }
-    r
 }
 
+#[tactic(auto, unfolding(complete::specs::Descent::past_H))]
 pub fn past_h(r: Rest) -> Rest
     requires { RoomyRest r }
     ensures { result ≡ past_H r }
 {
-    let v = r.vector;
-    if odd_pair(v.y, v.z) {
-        return without_h(r);
+    if odd_pair(r.vector.y, r.vector.z) {
+        without_h(r)
+    } else {
+        r
     }
-    r
 }
 
+#[tactic(auto, unfolding(complete::specs::Descent::past_T))]
 pub fn past_t(r: Rest) -> Rest
     requires { RoomyRest r }
     ensures { result ≡ past_T r }
 {
-    let matrix = r.matrix;
-    let v = r.vector;
-    if odd_pair(v.x, v.y) {
-        return Rest {
-            matrix: turn::record_without_t(matrix),
-            vector: turn::vector_without_t(v),
-        };
-    }
-    Rest {
-        matrix,
-        vector: turn::vector_lowered(v),
+    if odd_pair(r.vector.x, r.vector.y) {
+        without_t(r)
+    } else {
+        lowered(r)
     }
 }
 
 // At exponent 0: S taken off from the y axis, H from the x axis, X from −z.
+#[tactic(auto, unfolding(complete::specs::Descent::off_y))]
 pub fn off_y(r: Rest) -> Rest
     requires { RoomyRest r }
     ensures { result ≡ off_y r }
 {
-    if ring::odd(r.vector.y.whole) {
-        return without_s(r);
-    }
-    r
+    if r.vector.y.is_odd() { without_s(r) } else { r }
 }
 
+#[tactic(auto, unfolding(complete::specs::Descent::off_x))]
 pub fn off_x(r: Rest) -> Rest
     requires { RoomyRest r }
     ensures { result ≡ off_x r }
 {
-    if ring::odd(r.vector.x.whole) {
-        return without_h(r);
-    }
-    r
+    if r.vector.x.is_odd() { without_h(r) } else { r }
 }
 
 #[tactic(auto, using(crate::proofs::Choice::turned_up_below, crate::proofs::Choice::turned_up_not_below))]
@@ -163,40 +183,32 @@ pub fn turned_up(r: Rest) -> Rest
     requires { RoomyRest r }
     ensures { result ≡ turned_up r }
 {
-    let matrix = r.matrix;
-    let vector = r.vector;
     if r.vector.z.whole < 0 {
-        return Rest {
-            matrix: turn::record_without_x(matrix),
-            vector: turn::vector_without_x(vector),
-        };
+        without_x(r)
+    } else {
+        r
     }
-    r
 }
 
+#[tactic(auto, unfolding(complete::specs::Descent::by_sign))]
 fn by_sign(z: i64, above: u8, below: u8, at: u8) -> u8
     ensures { result ≡ by_sign z above below at }
 {
-    if 0 < z {
-        return above;
+    match z.cmp(&0) {
+        Ordering::Greater => above,
+        Ordering::Less => below,
+        Ordering::Equal => at,
     }
-    if z < 0 {
-        return below;
-    }
-    at
 }
 
 // j, of a positive multiple of ω^j or of √2·ω^j.
 pub fn phase(x: Element) -> u8
     ensures { result ≡ phase x }
 {
-    let a1 = x.a1;
-    let a2 = x.a2;
-    let a3 = x.a3;
-    let above = by_sign(a3, 2, 0, 1);
-    let below = by_sign(a3, 4, 6, 5);
-    let sides = by_sign(a1, above, below, by_sign(a3, 3, 7, 0));
-    let right = by_sign(a2, 1, 7, 0);
-    let left = by_sign(a2, 3, 5, 4);
-    by_sign(x.a0, right, left, by_sign(a2, 2, 6, sides))
+    let above = by_sign(x.a3, 2, 0, 1);
+    let below = by_sign(x.a3, 4, 6, 5);
+    let sides = by_sign(x.a1, above, below, by_sign(x.a3, 3, 7, 0));
+    let right = by_sign(x.a2, 1, 7, 0);
+    let left = by_sign(x.a2, 3, 5, 4);
+    by_sign(x.a0, right, left, by_sign(x.a2, 2, 6, sides))
 }

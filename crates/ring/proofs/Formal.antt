@@ -7,6 +7,7 @@ use lib.Dec.{T as Holds}
 use Rattle.algebra.proofs.Whole.{whole}
 use Rattle.algebra.proofs.Solver.{Expr, var, con, ◌⊕◌, ◌⊗◌, ⊖◌, value, same, solve}
 use Rattle.ring.specs.declared.Element.{Element}
+use Rattle.ring.specs.declared.Vector.{Vector}
 use Rattle.ring.specs.Element.{element}
 
 -- an element whose coefficients are expressions
@@ -42,6 +43,14 @@ x *ᶠ y =
 
 abbrev pub conjugateᶠ : Formal → Formal
 conjugateᶠ x = formal x.c0 (⊖ x.c3) (⊖ x.c2) (⊖ x.c1)
+
+-- a number of Z[√2] whose parts are expressions
+abbrev pub realᶠ : Expr → Expr → Formal
+realᶠ a b = formal a b (con (pos 0)) (⊖ b)
+
+-- the parts of a vector's numbers
+abbrev pub parts_of : Vector → List ℤ
+parts_of v = v.x.whole ∷ v.x.root2 ∷ v.y.whole ∷ v.y.root2 ∷ v.z.whole ∷ v.z.root2 ∷ []
 
 -- a whole number as an element, √2, and three elements that stand for any
 abbrev pub wholeᶠ : Expr → Formal

@@ -4,3 +4,4 @@ pub mod Root2
 pub mod Bounds
 pub mod Halving
 pub mod Divided
+pub mod Halves

@@ -1,3 +1,4 @@
 pub mod Element
 pub mod Bounds
 pub mod Divided
+pub mod Real

@@ -1,4 +1,5 @@
-// Ring elements: four whole numbers (a0, a1, a2, a3), meaning a0 + a1ω + a2ω² + a3ω³ with ω⁴ = −1.
+// Ring elements: four whole numbers (a0, a1, a2, a3), meaning a0 + a1ω + a2ω² + a3ω³ with ω⁴ = −1. The real ones among them are
+// the numbers of Z[√2].
 #![tactic(auto)]
 
 ghost use Rattle.std.specs.Prelude.{◌^◌, true, ◌↔◌, ◌≡◌};
@@ -6,6 +7,7 @@ ghost use Rattle.algebra.specs.Parity.{odd};
 ghost use Rattle.ring.specs.Element.{sum, negation, multiple, turned, product, conjugate, root2};
 ghost use Rattle.ring.specs.Bounds.{Small, Multiplied, Factors};
 ghost use Rattle.ring.specs.Divided.{Root2Divides, Double};
+ghost use Rattle.ring.specs.Real.{negated, over_root2, half_sum, half_difference, RoomyNumber};
 
 #[derive(Clone, Copy, PartialEq, Eq)]
 pub struct Element {
@@ -52,6 +54,7 @@ impl Element {
         a3: -1,
     };
 
+    // Room stands in the contracts and is no invariant of the type: a sum of two elements that leave room may leave none.
     // The sum, place by place.
     pub fn plus(self, other: Element) -> Element
         requires small { Small (2 ^ 61) self }
@@ -156,11 +159,74 @@ impl Element {
     pub fn divides_by_root2(self) -> bool
         ensures { result ≡ true ↔ Root2Divides self }
     {
-        if odd(self.a0) != odd(self.a2) {
-            return false;
-        }
-        odd(self.a1) == odd(self.a3)
+        odd(self.a0) == odd(self.a2) && odd(self.a1) == odd(self.a3)
     }
+}
+
+// A number of Z[√2]: whole + root2·√2.
+#[derive(Clone, Copy)]
+pub struct Real {
+    pub whole: i64,
+    pub root2: i64,
+}
+
+impl Real {
+    // Whether the whole part is odd.
+    pub fn is_odd(self) -> bool
+        ensures { result ≡ odd self.whole }
+    {
+        odd(self.whole)
+    }
+
+    pub fn negated(self) -> Real
+        requires { RoomyNumber self }
+        ensures { result ≡ negated self }
+    {
+        Real {
+            whole: -self.whole,
+            root2: -self.root2,
+        }
+    }
+
+    // Divided by √2, where the whole part is even.
+    pub fn over_root2(self) -> Real
+        ensures { result ≡ over_root2 self }
+    {
+        Real {
+            whole: self.root2,
+            root2: self.whole >> 1,
+        }
+    }
+
+    pub fn half_sum(self, other: Real) -> Real
+        requires roomy_number { RoomyNumber self }
+        requires roomy_number_2 { RoomyNumber other }
+        ensures { result ≡ half_sum self other }
+    {
+        Real {
+            whole: (self.whole + other.whole) >> 1,
+            root2: (self.root2 + other.root2) >> 1,
+        }
+    }
+
+    pub fn half_difference(self, other: Real) -> Real
+        requires roomy_number { RoomyNumber self }
+        requires roomy_number_2 { RoomyNumber other }
+        ensures { result ≡ half_difference self other }
+    {
+        Real {
+            whole: (self.whole - other.whole) >> 1,
+            root2: (self.root2 - other.root2) >> 1,
+        }
+    }
+}
+
+// The numerators of a Bloch vector or of a rotation vector, over a power of √2.
+#[derive(Clone, Copy)]
+pub struct Vector {
+    pub x: Real,
+    pub y: Real,
+    pub z: Real,
 }
 
 pub fn odd(n: i64) -> bool

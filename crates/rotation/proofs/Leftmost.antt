@@ -14,8 +14,9 @@ use Rattle.form.specs.Count.{t_count}
 use Rattle.form.proofs.Count.{t_count_form, front_count}
 use Rattle.form.proofs.Every.{every, every_at}
 use Rattle.rotation.specs.Rotation.{Axis, axis_X, axis_Y, axis_Z, Leftmost, third_for_T, first_for_HT, second_for_SHT}
-use Rattle.rotation.specs.declared.Vector.{Vector}
-use Rattle.rotation.specs.Vector.{negated, added, subtracted, by_root2, unit, rotated, text_rotated, at}
+use Rattle.ring.specs.declared.Vector.{Vector}
+use Rattle.ring.specs.Real.{negated}
+use Rattle.rotation.specs.Vector.{added, subtracted, by_root2, unit, rotated, text_rotated, at}
 use Rattle.rotation.proofs.Parity.{odd_at, mixed, pattern, after_T, after_HT, after_SHT}
 
 -- a syllable leaves the bit as it was

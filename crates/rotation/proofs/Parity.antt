@@ -18,8 +18,9 @@ use Rattle.ring.proofs.Root2.{root2_times, root2_power_plus, root2_power_cancel}
 use Rattle.matrix.specs.Matrix.{EqualOver}
 use Rattle.matrix.specs.Letter.{H, S, T}
 use Rattle.rotation.specs.Rotation.{Axis, axis_X, axis_Y, axis_Z}
-use Rattle.rotation.specs.declared.Vector.{Vector}
-use Rattle.rotation.specs.Vector.{negated, added, subtracted, by_root2, at, rotated, text_rotated}
+use Rattle.ring.specs.declared.Vector.{Vector}
+use Rattle.ring.specs.Real.{negated}
+use Rattle.rotation.specs.Vector.{added, subtracted, by_root2, at, rotated, text_rotated}
 
 -- the parity of an element: ω counts as one, so √2 counts as nothing
 unfoldable pub odd_element : Element → Bool

@@ -3,15 +3,14 @@
 -- one test a letter. Assumes nothing.
 use mathlib.Core.Path.{◌≡◌, ap, sym, ◌∙◌}
 use mathlib.Core.Bool.{true, cond}
-use mathlib.Core.List.{List, [], ◌∷◌}
+use mathlib.Core.List.{List}
 use Prim.Native.Nat.{ℕ, suc, ◌+◌}
 use native.Mathlib.Omega.{arith}
 use lib.Dec.{eqb}
-use lib.IntN.{ℤ, pos}
 use Rattle.lists.specs.List.{none, more}
-use Rattle.algebra.proofs.Solver.{Expr, var, con, ◌⊕◌, ⊖◌}
+use Rattle.algebra.proofs.Solver.{var, ◌⊕◌, ⊖◌}
 use Rattle.ring.specs.Element.{nothing, one, omega as ω, omega2, sum, product, multiple, turned, negation, conjugate}
-use Rattle.ring.proofs.Formal.{Formal, formal, ◌+ᶠ◌, -ᶠ◌, ◌*ᶠ◌}
+use Rattle.ring.proofs.Formal.{Formal, ◌+ᶠ◌, -ᶠ◌, ◌*ᶠ◌, realᶠ, parts_of}
 use Rattle.matrix.specs.declared.Matrix.{Matrix}
 use Rattle.matrix.specs.Matrix.{identity, times, adjoint, Same}
 use Rattle.matrix.specs.Letter.{H, S, T, W, X, Y, Z, gate, gate_H, gate_S, gate_T, gate_W, gate_X, gate_Y, gate_Z, matrix_of, is_letter, Letters}
@@ -21,18 +20,12 @@ use Rattle.matrix.proofs.Letter.{by_letter}
 use Rattle.matrix.proofs.Adjoint.{adjoint_times, adjoint_identity}
 use Rattle.matrix.proofs.FormalMatrix.{FormalMatrix, formal_matrix, timesᶠ, adjointᶠ, oneᶠ, nothingᶠ, omegaᶠ, omega2ᶠ, same_alike}
 use Rattle.form.specs.Count.{t_count}
-use Rattle.rotation.specs.declared.Vector.{Vector}
-use Rattle.rotation.specs.Vector.{real, negated, added, subtracted, by_root2, along, rotated, text_rotated}
+use Rattle.ring.specs.declared.Vector.{Vector}
+use Rattle.ring.specs.Real.{real, negated}
+use Rattle.rotation.specs.Vector.{added, subtracted, by_root2, along, rotated, text_rotated}
 
 -- ---- formal numbers and vectors
--- a number of Z[√2] whose parts are expressions
-abbrev pub realᶠ : Expr → Expr → Formal
-realᶠ a b = formal a b (con (pos 0)) (⊖ b)
-
--- the numbers of a vector, and their parts
-abbrev pub parts_of : Vector → List ℤ
-parts_of v = v.x.whole ∷ v.x.root2 ∷ v.y.whole ∷ v.y.root2 ∷ v.z.whole ∷ v.z.root2 ∷ []
-
+-- the numbers of a vector
 abbrev pub xʳ : Formal
 xʳ = realᶠ (var 0) (var 1)
 

@@ -8,11 +8,10 @@ use Rattle.algebra.proofs.Whole.{whole}
 use Rattle.algebra.proofs.Solver.{var, con, ◌⊕◌, ⊖◌, solve}
 use Rattle.ring.specs.declared.Element.{Element}
 use Rattle.ring.specs.Element.{one, root2, sum, multiple}
-use Rattle.ring.proofs.Formal.{◌+ᶠ◌, multipleᶠ, wholeᶠ, root2ᶠ, coefficientwise}
-use Rattle.rotation.specs.declared.Real.{Real}
+use Rattle.ring.proofs.Formal.{◌+ᶠ◌, multipleᶠ, wholeᶠ, root2ᶠ, realᶠ, coefficientwise}
+use Rattle.ring.specs.declared.Real.{Real}
 use Rattle.rotation.specs.Rotation.{surd}
-use Rattle.rotation.specs.Vector.{number, real}
-use Rattle.rotation.proofs.Rotated.{realᶠ}
+use Rattle.ring.specs.Real.{number, real}
 use Rattle.rotation.proofs.Parity.{odd_element}
 
 pub real_is_surd : (r : Real) → real r ≡ surd r.whole r.root2

@@ -7,7 +7,7 @@ use native.Mathlib.Omega.{arith}
 use Rattle.algebra.proofs.Solver.{var, ◌⊕◌, ◌⊗◌, combine, given, done}
 use Rattle.ring.specs.declared.Element.{Element}
 use Rattle.ring.specs.Element.{nothing, one, omega2, sum, product, multiple, turned, negation, root2_power}
-use Rattle.ring.proofs.Formal.{Formal, ◌+ᶠ◌, -ᶠ◌}
+use Rattle.ring.proofs.Formal.{Formal, ◌+ᶠ◌, -ᶠ◌, parts_of}
 use Rattle.ring.proofs.Ring.{elements}
 use Rattle.ring.proofs.Root2.{root2_power_plus}
 use Rattle.matrix.specs.declared.Matrix.{Matrix}
@@ -17,9 +17,10 @@ use Rattle.matrix.proofs.Same.{over_trans, same_of_equal, same_trans, same_times
 use Rattle.form.specs.Count.{t_count}
 use Rattle.rotation.specs.Rotation.{Axis, axis_X, axis_Y, axis_Z, axis_gate, row_column, trace}
 use Rattle.matrix.proofs.FormalMatrix.{FormalMatrix, formal_matrix, timesᶠ, oneᶠ, nothingᶠ, omega2ᶠ, over_alike}
-use Rattle.rotation.specs.declared.Vector.{Vector}
-use Rattle.rotation.specs.Vector.{real, at, unit, along, text_rotated}
-use Rattle.rotation.proofs.Rotated.{parts_of, xʳ, yʳ, zʳ, alongᶠ, text_rotates}
+use Rattle.ring.specs.declared.Vector.{Vector}
+use Rattle.ring.specs.Real.{real}
+use Rattle.rotation.specs.Vector.{at, unit, along, text_rotated}
+use Rattle.rotation.proofs.Rotated.{xʳ, yʳ, zʳ, alongᶠ, text_rotates}
 
 abbrev traceᶠ : FormalMatrix → Formal
 traceᶠ m = m.tl +ᶠ m.br

@@ -1,28 +1,20 @@
 -- SPEC, "Rotation": vectors over Z[√2], the matrix of one, and what a letter and a text make of it.
-use Rattle.std.specs.Prelude.{ℕ, cond, List, [], ◌∷◌, eqb, ℤ, pos, ◌+ℤ◌, ◌-ℤ◌, neg_ℤ}
-use Rattle.ring.specs.declared.Element.{Element}
-use Rattle.ring.specs.Element.{element, omega2, sum, negation, product}
+use Rattle.std.specs.Prelude.{ℕ, cond, List, [], ◌∷◌, eqb, pos, ◌+ℤ◌, ◌-ℤ◌}
+use Rattle.ring.specs.Element.{omega2, sum, negation, product}
 use Rattle.matrix.specs.declared.Matrix.{Matrix}
 use Rattle.matrix.specs.Matrix.{matrix}
 use Rattle.matrix.specs.Letter.{H, S, T, X, Y, Z}
-use Rattle.rotation.specs.declared.Real.{Real}
-use Rattle.rotation.specs.declared.Vector.{Vector}
+use Rattle.ring.specs.declared.Real.{Real}
+use Rattle.ring.specs.declared.Vector.{Vector}
+use Rattle.ring.specs.Real.{number, real, negated, vector}
 use Rattle.rotation.specs.Rotation.{Axis, axis_X, axis_Y, axis_Z}
 
 -- ---- numbers
-abbrev pub number : ℤ → ℤ → Real
-number w r = record { whole = w; root2 = r }
-
--- a number as a ring element: √2 = ω − ω³
-unfoldable pub real : Real → Element
-real r = element r.whole r.root2 (pos 0) (neg_ℤ r.root2)
-
-unfoldable pub negated : Real → Real
-negated r = number (neg_ℤ r.whole) (neg_ℤ r.root2)
-
+-- the sum
 unfoldable pub added : Real → Real → Real
 added r s = number (r.whole +ℤ s.whole) (r.root2 +ℤ s.root2)
 
+-- the difference
 unfoldable pub subtracted : Real → Real → Real
 subtracted r s = number (r.whole -ℤ s.whole) (r.root2 -ℤ s.root2)
 
@@ -31,9 +23,6 @@ unfoldable pub by_root2 : Real → Real
 by_root2 r = number (r.root2 +ℤ r.root2) r.whole
 
 -- ---- vectors
-abbrev pub vector : Real → Real → Real → Vector
-vector x y z = record { x = x; y = y; z = z }
-
 -- the number along an axis
 unfoldable pub at : Vector → Axis → Real
 at v axis_X = v.x

@@ -1,14 +1,10 @@
 -- Room in the machine's 64 bits: numbers of size up to 2^61, so that a sum of two and a change of sign stay exact.
 use Rattle.std.specs.Prelude.{◌^◌, ◌<◌}
-use Rattle.ring.specs.Bounds.{Bounded, Small}
+use Rattle.ring.specs.Bounds.{Small}
 use Rattle.matrix.specs.declared.Matrix.{Matrix}
-use Rattle.complete.specs.declared.Real.{Real}
-use Rattle.complete.specs.declared.Vector.{Vector}
+use Rattle.ring.specs.Real.{RoomyNumber}
+use Rattle.ring.specs.declared.Vector.{Vector}
 use Rattle.complete.specs.declared.Rest.{Rest}
-
-pub record RoomyNumber (r : Real) : Type 0 where
-  pub whole : Bounded (2 ^ 61) r.whole
-  pub root2 : Bounded (2 ^ 61) r.root2
 
 pub record RoomyVector (v : Vector) : Type 0 where
   pub x : RoomyNumber v.x

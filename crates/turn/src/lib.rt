@@ -4,122 +4,70 @@
 
 ghost use Rattle.std.specs.Prelude.{◌≡◌, ◌^◌};
 ghost use Rattle.ring.specs.Bounds.{Small};
-ghost use Rattle.complete.specs.Vector.{negated, over_root2, half_sum, half_difference};
 ghost use Rattle.complete.specs.Descent.{turned_back, vector_without_S, vector_without_H, vector_without_X, vector_without_T, vector_lowered, record_without_S, record_without_H, record_without_X, record_without_T};
-ghost use Rattle.turn.specs.Room.{RoomyNumber, RoomyVector, RoomyRecord};
+ghost use Rattle.turn.specs.Room.{RoomyVector, RoomyRecord};
 
-use complete::{Real, Vector};
 use matrix::{Matrix, Row};
-use ring::Element;
+use ring::{Element, Vector};
 
-fn negated(r: Real) -> Real
-    requires { RoomyNumber r }
-    ensures { result ≡ negated r }
-{
-    Real {
-        whole: -r.whole,
-        root2: -r.root2,
-    }
-}
-
-// Divided by √2, where the whole part is even.
-fn over_root2(r: Real) -> Real
-    ensures { result ≡ over_root2 r }
-{
-    Real {
-        whole: r.root2,
-        root2: r.whole >> 1,
-    }
-}
-
-fn half_sum(r: Real, s: Real) -> Real
-    requires roomy_number { RoomyNumber r }
-    requires roomy_number_2 { RoomyNumber s }
-    ensures { result ≡ half_sum r s }
-{
-    Real {
-        whole: (r.whole + s.whole) >> 1,
-        root2: (r.root2 + s.root2) >> 1,
-    }
-}
-
-fn half_difference(r: Real, s: Real) -> Real
-    requires roomy_number { RoomyNumber r }
-    requires roomy_number_2 { RoomyNumber s }
-    ensures { result ≡ half_difference r s }
-{
-    Real {
-        whole: (r.whole - s.whole) >> 1,
-        root2: (r.root2 - s.root2) >> 1,
-    }
-}
-
+// Room stands in the contracts and is no invariant of a type: a step may use it up, and only a whole descent keeps it.
+#[tactic(auto, unfolding(complete::specs::Descent::vector_without_S))]
 pub fn vector_without_s(v: Vector) -> Vector
     requires { RoomyVector v }
     ensures { result ≡ vector_without_S v }
 {
-    let x = v.x;
-    let y = v.y;
-    let z = v.z;
     Vector {
-        x: y,
-        y: negated(x),
-        z,
+        x: v.y,
+        y: v.x.negated(),
+        z: v.z,
     }
 }
 
+#[tactic(auto, unfolding(complete::specs::Descent::vector_without_H))]
 pub fn vector_without_h(v: Vector) -> Vector
     requires { RoomyVector v }
     ensures { result ≡ vector_without_H v }
 {
-    let x = v.x;
-    let y = v.y;
-    let z = v.z;
     Vector {
-        x: z,
-        y: negated(y),
-        z: x,
+        x: v.z,
+        y: v.y.negated(),
+        z: v.x,
     }
 }
 
+#[tactic(auto, unfolding(complete::specs::Descent::vector_without_X))]
 pub fn vector_without_x(v: Vector) -> Vector
     requires { RoomyVector v }
     ensures { result ≡ vector_without_X v }
 {
-    let x = v.x;
-    let y = v.y;
-    let z = v.z;
     Vector {
-        x,
-        y: negated(y),
-        z: negated(z),
+        x: v.x,
+        y: v.y.negated(),
+        z: v.z.negated(),
     }
 }
 
+#[tactic(auto, unfolding(complete::specs::Descent::vector_without_T))]
 pub fn vector_without_t(v: Vector) -> Vector
     requires { RoomyVector v }
     ensures { result ≡ vector_without_T v }
 {
-    let x = v.x;
-    let y = v.y;
-    let z = v.z;
     Vector {
-        x: half_sum(x, y),
-        y: half_difference(y, x),
-        z: over_root2(z),
+        x: v.x.half_sum(v.y),
+        y: v.y.half_difference(v.x),
+        z: v.z.over_root2(),
     }
 }
 
+// Nothing taken off: the vector is over one √2 less.
+#[tactic(auto, unfolding(complete::specs::Descent::vector_lowered))]
 pub fn vector_lowered(v: Vector) -> Vector
     ensures { result ≡ vector_lowered v }
 {
-    let x = v.x;
-    let y = v.y;
-    let z = v.z;
     Vector {
-        x: over_root2(x),
-        y: over_root2(y),
-        z: over_root2(z),
+        x: v.x.over_root2(),
+        y: v.y.over_root2(),
+        z: v.z.over_root2(),
     }
 }
 
@@ -136,49 +84,37 @@ fn turned_back(x: Element) -> Element
     }
 }
 
-pub fn record_without_s(m: Matrix) -> Matrix
-    requires { RoomyRecord m }
-    ensures { result ≡ record_without_S m }
-{
-    let top = m.top;
-    let left = m.bottom.left;
-    let right = m.bottom.right;
-    Matrix {
-        exponent: m.exponent,
-        top,
-        bottom: Row {
-            left: turned_back(turned_back(left)),
-            right: turned_back(turned_back(right)),
-        },
-    }
-}
-
+#[tactic(auto, unfolding(complete::specs::Descent::record_without_T))]
 pub fn record_without_t(m: Matrix) -> Matrix
     requires { RoomyRecord m }
     ensures { result ≡ record_without_T m }
 {
-    let top = m.top;
-    let left = m.bottom.left;
-    let right = m.bottom.right;
     Matrix {
-        exponent: m.exponent,
-        top,
         bottom: Row {
-            left: turned_back(left),
-            right: turned_back(right),
+            left: turned_back(m.bottom.left),
+            right: turned_back(m.bottom.right),
         },
+        ..m
     }
 }
 
+// S is T twice.
+#[tactic(auto, unfolding(complete::specs::Descent::record_without_S, complete::specs::Descent::record_without_T))]
+pub fn record_without_s(m: Matrix) -> Matrix
+    requires { RoomyRecord m }
+    ensures { result ≡ record_without_S m }
+{
+    record_without_t(record_without_t(m))
+}
+
+#[tactic(auto, unfolding(complete::specs::Descent::record_without_X))]
 pub fn record_without_x(m: Matrix) -> Matrix
     ensures { result ≡ record_without_X m }
 {
-    let top = m.top;
-    let bottom = m.bottom;
     Matrix {
-        exponent: m.exponent,
-        top: bottom,
-        bottom: top,
+        top: m.bottom,
+        bottom: m.top,
+        ..m
     }
 }
 

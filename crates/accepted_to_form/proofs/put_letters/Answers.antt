@@ -6,7 +6,7 @@ use Prim.Native.Nat.{ℕ, suc, ◌+◌, ◌-◌, ◌<◌}
 use native.Mathlib.Omega.{arith}
 use Rattle.matrix.proofs.Small.{unitary_is_small}
 use Rattle.complete.specs.declared.Rest.{Rest}
-use Rattle.complete.specs.declared.Vector.{Vector}
+use Rattle.ring.specs.declared.Vector.{Vector}
 use Rattle.complete.specs.Descent.{rest as a_rest, past_syllable}
 use Rattle.place.proofs.Place.{placed_length}
 use Rattle.accepted_to_form.specs.Descends.{Descends, AboveZero}

@@ -7,7 +7,8 @@ use Rattle.ring.specs.declared.Element.{Element}
 use Rattle.ring.specs.Element.{product}
 use Rattle.ring.specs.Bounds.{Small}
 use Rattle.ring.proofs.Bounds.{small_more, numeral_room, conjugate_factor, small_conjugate_product}
-use Rattle.complete.specs.Vector.{number, vector, vector_of}
+use Rattle.ring.specs.Real.{number, vector}
+use Rattle.complete.specs.Vector.{vector_of}
 use Rattle.descend.proofs.Products.{roomy}
 use Rattle.descend.proofs.vector_of.Goals as goal
 

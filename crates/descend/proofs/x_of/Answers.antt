@@ -1,6 +1,6 @@
 -- `descend::x_of` meets its contract: the sum and the difference fit. Assumes nothing.
 use Rattle.ring.proofs.Bounds.{sum_fits, sum_exact}
-use Rattle.turn.proofs.Halves.{difference_fits, difference_exact, equal_parts}
+use Rattle.ring.proofs.Halves.{difference_fits, difference_exact, equal_parts}
 use Rattle.descend.proofs.x_of.Goals as goal
 
 pub overflow_add-result : goal.overflow_add-result

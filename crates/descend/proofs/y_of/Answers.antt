@@ -1,6 +1,6 @@
 -- `descend::y_of` meets its contract: the sums fit. Assumes nothing.
 use Rattle.ring.proofs.Bounds.{sum_fits, sum_exact}
-use Rattle.turn.proofs.Halves.{equal_parts}
+use Rattle.ring.proofs.Halves.{equal_parts}
 use Rattle.descend.proofs.y_of.Goals as goal
 
 pub overflow_add-result : goal.overflow_add-result

@@ -3,7 +3,6 @@
 use mathlib.Core.Path.{◌≡◌, refl, sym, ◌∙◌, ap}
 use mathlib.Core.Bool.{Bool, true, false, beq, true≢false, false≢true}
 use borrow.Author.Rules.{sfits_of}
-use borrow.Author.Tests.{not-true, not-false}
 use lib.IntN.{ℤ}
 use mir.Syntax.{w64}
 use mir.Val.{SFits}
@@ -32,24 +31,24 @@ parity z f e = e ∙ ap odd (to_z-of_z f)
 
 pub returns-then-odd : goal.returns-then-odd
 returns-then-odd c =
-    let outer_left : c.odd.result ≡ odd c.args.self.a0 = parity c.args.self.a0 (search sfits_of) c.odd.ensures in
-    let outer_right : c.odd-2.result ≡ odd c.args.self.a2 = parity c.args.self.a2 (search sfits_of) c.odd-2.ensures in (
-      λ e. absurd (false≢true e),
-      λ d.
-          sym (not-true _ c.if-odd.true) ∙ agreed _ _ (outer_left ∙ (pairs_of_divided d).outer ∙ sym outer_right),
-    )
-
-pub returns : goal.returns
-returns c =
-    let outer_left : c.odd.result ≡ odd c.args.self.a0 = parity c.args.self.a0 (search sfits_of) c.odd.ensures in
-    let outer_right : c.odd-2.result ≡ odd c.args.self.a2 = parity c.args.self.a2 (search sfits_of) c.odd-2.ensures in
     let x = c.args.self in
-    let left = parity x.a1 (search sfits_of) c.odd-3.ensures in
-    let right = parity x.a3 (search sfits_of) c.odd-4.ensures in (
+    let outer_left = parity x.a0 (search sfits_of) c.odd.ensures in
+    let outer_right = parity x.a2 (search sfits_of) c.odd-2.ensures in
+    let left = parity x.a1 (search sfits_of) c.odd-then-odd.ensures in
+    let right = parity x.a3 (search sfits_of) c.odd-then-odd-2.ensures in (
       λ e.
           divided_of_pairs (record {
-            outer = sym outer_left ∙ agree _ _ (not-false _ c.if-odd.false) ∙ outer_right;
+            outer = sym outer_left ∙ agree _ _ c.if-odd.true ∙ outer_right;
             inner = sym left ∙ agree _ _ e ∙ right;
           }),
       λ d. agreed _ _ (left ∙ (pairs_of_divided d).inner ∙ sym right),
+    )
+
+pub returns-else-odd : goal.returns-else-odd
+returns-else-odd c =
+    let x = c.args.self in
+    let outer_left = parity x.a0 (search sfits_of) c.odd.ensures in
+    let outer_right = parity x.a2 (search sfits_of) c.odd-2.ensures in (
+      λ e. absurd (true≢false (sym e ∙ c.if-odd.false)),
+      λ d. agreed _ _ (outer_left ∙ (pairs_of_divided d).outer ∙ sym outer_right),
     )

@@ -12,8 +12,8 @@ use mir.Facts.{to_z-of_z}
 use Rattle.algebra.specs.Parity.{half}
 use Rattle.ring.specs.Bounds.{Bounded}
 use Rattle.ring.proofs.Bounds.{stored, known, ◌⊟◌, fits, exact_stored, sum_exact, bounded_fits, bounded_sum, bounded_negation}
-use Rattle.complete.specs.declared.Real.{Real}
-use Rattle.complete.specs.Vector.{number, vector}
+use Rattle.ring.specs.declared.Real.{Real}
+use Rattle.ring.specs.Real.{number, vector}
 
 shift_half : (z : ℤ) → shr_z z 2 ≡ half z
 shift_half (pos n) = refl

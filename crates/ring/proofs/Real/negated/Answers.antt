@@ -1,8 +1,8 @@
--- `turn::negated` meets its contract: the changes of sign fit. Assumes nothing.
+-- `ring::Real::negated` meets its contract: the changes of sign fit. Assumes nothing.
 use Rattle.ring.proofs.Bounds.{negation_fits, negation_exact}
-use Rattle.complete.specs.Vector.{negated}
-use Rattle.turn.proofs.Halves.{equal_parts}
-use Rattle.turn.proofs.negated.Goals as goal
+use Rattle.ring.specs.Real.{negated}
+use Rattle.ring.proofs.Halves.{equal_parts}
+use Rattle.ring.proofs.Real.negated.Goals as goal
 
 pub overflow_sub-result : goal.overflow_sub-result
 overflow_sub-result c = search negation_fits

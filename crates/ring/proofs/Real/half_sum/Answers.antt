@@ -1,8 +1,8 @@
--- `turn::half_sum` meets its contract: the sums fit, and a shift is half of a number. Assumes nothing.
+-- `ring::Real::half_sum` meets its contract: the sums fit, and a shift is half of a number. Assumes nothing.
 use Rattle.ring.proofs.Bounds.{sum_fits}
-use Rattle.complete.specs.Vector.{half_sum}
-use Rattle.turn.proofs.Halves.{half_sum_exact, equal_parts}
-use Rattle.turn.proofs.half_sum.Goals as goal
+use Rattle.ring.specs.Real.{half_sum}
+use Rattle.ring.proofs.Halves.{half_sum_exact, equal_parts}
+use Rattle.ring.proofs.Real.half_sum.Goals as goal
 
 pub overflow_add-result : goal.overflow_add-result
 overflow_add-result c = search sum_fits

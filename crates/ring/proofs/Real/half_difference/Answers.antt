@@ -1,7 +1,7 @@
--- `turn::half_difference` meets its contract: the differences fit, and a shift is half of a number. Assumes nothing.
-use Rattle.complete.specs.Vector.{half_difference}
-use Rattle.turn.proofs.Halves.{difference_fits, half_difference_exact, equal_parts}
-use Rattle.turn.proofs.half_difference.Goals as goal
+-- `ring::Real::half_difference` meets its contract: the differences fit, and a shift is half of a number. Assumes nothing.
+use Rattle.ring.specs.Real.{half_difference}
+use Rattle.ring.proofs.Halves.{difference_fits, half_difference_exact, equal_parts}
+use Rattle.ring.proofs.Real.half_difference.Goals as goal
 
 pub overflow_sub-result : goal.overflow_sub-result
 overflow_sub-result c = search difference_fits
