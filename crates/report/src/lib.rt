@@ -8,15 +8,15 @@ ghost use Rattle.report.specs.Decimal.{decimal};
 ghost use Rattle.report.specs.Report.{field, ok_line, no_line, answer_line, number_room, field_room, line_room};
 
 use answer::{Figures, Refusal};
-use lines::{BLOCK, Output};
+use arrayvec::ArrayVec;
 
 // How much longer than its form a line can be.
 pub const LINE_ROOM: usize = 46;
 
 // A number in decimal.
 #[tactic(auto, using(crate::proofs::Number::written_decimal))]
-pub fn put_number(output: &mut Output, n: u64)
-    requires { array_vec_len output.old + number_room ≤ BLOCK }
+pub fn put_number<const N: usize>(output: &mut ArrayVec<u8, N>, n: u64)
+    requires { array_vec_len output.old + number_room ≤ N }
     ensures put { output.new.items ≡ output.old.items ++ decimal n }
     ensures upper_bound { array_vec_len output.new ≤ array_vec_len output.old + number_room }
 {
@@ -26,8 +26,8 @@ pub fn put_number(output: &mut Output, n: u64)
 
 // A number after a space.
 #[tactic(auto, unfolding(crate::specs::Report::field))]
-pub fn put_field(output: &mut Output, n: u64)
-    requires { array_vec_len output.old + field_room ≤ BLOCK }
+pub fn put_field<const N: usize>(output: &mut ArrayVec<u8, N>, n: u64)
+    requires { array_vec_len output.old + field_room ≤ N }
     ensures put { output.new.items ≡ output.old.items ++ field n }
     ensures upper_bound { array_vec_len output.new ≤ array_vec_len output.old + field_room }
 {
@@ -37,8 +37,8 @@ pub fn put_field(output: &mut Output, n: u64)
 
 // `ok`, T-count, H-count, and the form at the start of the buffer.
 #[tactic(auto, using(crate::proofs::Lines::ok_line_added, lines::proofs::Kept::cut_at_least))]
-fn put_form(output: &mut Output, figures: Figures, buffer: &[u8])
-    requires { array_vec_len output.old + line_room + length buffer.now ≤ BLOCK }
+fn put_form<const N: usize>(output: &mut ArrayVec<u8, N>, figures: Figures, buffer: &[u8])
+    requires { array_vec_len output.old + line_room + length buffer.now ≤ N }
     ensures { output.new.items ≡ output.old.items ++ ok_line figures.tcount figures.hcount (take figures.length buffer.now) }
 {
     let length = buffer.len().min(figures.length);
@@ -52,8 +52,8 @@ fn put_form(output: &mut Output, figures: Figures, buffer: &[u8])
 
 // `no`, refusal, place.
 #[tactic(auto, using(crate::proofs::Lines::no_line_added))]
-pub fn put_refusal(output: &mut Output, refusal: Refusal)
-    requires { array_vec_len output.old + line_room ≤ BLOCK }
+pub fn put_refusal<const N: usize>(output: &mut ArrayVec<u8, N>, refusal: Refusal)
+    requires { array_vec_len output.old + line_room ≤ N }
     ensures put { output.new.items ≡ output.old.items ++ no_line (number refusal) (place refusal) }
     ensures upper_bound { array_vec_len output.new ≤ array_vec_len output.old + line_room }
 {
@@ -65,8 +65,12 @@ pub fn put_refusal(output: &mut Output, refusal: Refusal)
 
 // The line of an answer.
 #[tactic(auto, unfolding(crate::specs::Report::answer_line))]
-pub fn put_answer(output: &mut Output, answer: Result<Figures, Refusal>, buffer: &[u8])
-    requires { array_vec_len output.old + line_room + length buffer.now ≤ BLOCK }
+pub fn put_answer<const N: usize>(
+    output: &mut ArrayVec<u8, N>,
+    answer: Result<Figures, Refusal>,
+    buffer: &[u8],
+)
+    requires { array_vec_len output.old + line_room + length buffer.now ≤ N }
     ensures { output.new.items ≡ output.old.items ++ answer_line (said answer) buffer.now }
 {
     match answer {
