@@ -2,7 +2,7 @@
 #![tactic(auto)]
 
 ghost use Rattle.std.specs.Prelude.{◌≡◌, ◌+◌, ◌≤◌, length, take};
-ghost use Rattle.answer.specs.Written.{said};
+ghost use Rattle.answer.specs.Refusal.{said};
 ghost use Rattle.accept_record.specs.Accept.{AcceptedRecord};
 ghost use Rattle.place.specs.Place.{Placed};
 ghost use Rattle.complete.specs.Descent.{syllable_taken, past_syllable, axis_taken, upright, diagonal_text, word_below};
@@ -10,7 +10,7 @@ ghost use Rattle.accepted_to_form.specs.Descends.{Descends, AboveZero};
 ghost use Rattle.accepted_to_form.specs.Letters.{Spelt, most_letters};
 ghost use Rattle.accepted_to_form.specs.Promise.{AcceptedToForm};
 
-use answer::Written;
+use answer::{Figures, Refusal};
 use complete::Rest;
 use matrix::Matrix;
 
@@ -122,7 +122,7 @@ fn no_letters() -> [u8; MOST_LETTERS] {
 }
 
 // The form of an accepted record, written into a lent buffer where it has room.
-pub fn accepted_to_form(record: Matrix, buffer: &mut [u8]) -> Written
+pub fn accepted_to_form(record: Matrix, buffer: &mut [u8]) -> Result<Figures, Refusal>
     requires { AcceptedRecord «record» }
     ensures { AcceptedToForm «record» buffer.old (said result) buffer.new }
 {
