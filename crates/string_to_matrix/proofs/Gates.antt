@@ -59,14 +59,6 @@ diagonal_times u w m ep eq er es =
     (ep ∙ sym (upper u m.top.left m.bottom.left)) (eq ∙ sym (upper u m.top.right m.bottom.right))
     (er ∙ sym (lower w m.top.left m.bottom.left)) (es ∙ sym (lower w m.top.right m.bottom.right))
 
--- the letter of a form that is none of the others is X
-pub last_letter : {b : ℕ} → FormLetter b → (((Unit {0} × (b ≡ H → ⊥)) × (b ≡ S → ⊥)) × (b ≡ T → ⊥)) × (b ≡ W → ⊥) → b ≡ X
-last_letter letter_H others = absurd (others.0.0.0.1 refl)
-last_letter letter_S others = absurd (others.0.0.1 refl)
-last_letter letter_T others = absurd (others.0.1 refl)
-last_letter letter_W others = absurd (others.1 refl)
-last_letter letter_X others = refl
-
 -- a letter of a form is one of five bytes
 pub five_letters : {b : ℕ} → FormLetter b → (b ≡ H) ⊎ ((b ≡ S) ⊎ ((b ≡ T) ⊎ ((b ≡ W) ⊎ (b ≡ X))))
 five_letters letter_H = inl refl

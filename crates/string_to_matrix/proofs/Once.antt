@@ -4,15 +4,15 @@ use Prim.Native.Nat.{ℕ, ◌≤◌, ◌<◌}
 use native.Mathlib.Omega.{arith}
 use mathlib.Core.List.{List}
 use mathlib.Core.Path.{◌≡◌, refl, ap}
+use Rattle.std.specs.Prelude.{Result}
 use Rattle.matrix.specs.declared.Matrix.{Matrix}
 use Rattle.matrix.specs.Matrix.{LeastRecord}
 use Rattle.matrix.specs.Letter.{matrix_of}
 use Rattle.matrix.proofs.Least.{least_unique}
 use Rattle.answer.specs.Limits.{exponent_limit}
-use Rattle.answer.specs.Refusal.{Said, accepted, refusal}
-use Rattle.answer.specs.declared.Returned.{Returned}
-use Rattle.answer.specs.Returned.{said}
-use Rattle.answer.proofs.Told.{returned_told}
+use Rattle.answer.specs.declared.Refusal.{Refusal}
+use Rattle.answer.specs.Refusal.{Said, accepted, refusal, said}
+use Rattle.answer.proofs.Told.{said_told}
 use Rattle.alphabet.proofs.String.{string_refused_once, string_refused_or_accepted}
 use Rattle.string_to_matrix.specs.Promise.{StringToMatrix, refused_string, high_least_exponent, least_record}
 
@@ -36,5 +36,5 @@ string_to_matrix_said_once {text} (least_record s l h) (high_least_exponent t k 
 string_to_matrix_said_once {text} (least_record {m} s l h) (least_record {m = n} t k g) = ap accepted (least_unique (matrix_of text) m n l k)
 
 -- so the value that is returned is one
-pub string_to_matrix_returns_once : (text : List ℕ) (a b : Returned) → StringToMatrix text (said a) → StringToMatrix text (said b) → a ≡ b
-string_to_matrix_returns_once text a b fits fits' = returned_told a b (string_to_matrix_said_once fits fits')
+pub string_to_matrix_returns_once : (text : List ℕ) (a b : Result Matrix Refusal) → StringToMatrix text (said a) → StringToMatrix text (said b) → a ≡ b
+string_to_matrix_returns_once text a b fits fits' = said_told a b (string_to_matrix_said_once fits fits')

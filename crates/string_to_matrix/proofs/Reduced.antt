@@ -2,21 +2,20 @@
 -- least. Assumes nothing.
 use Prim.Native.Nat.{suc, ◌-◌, ◌≤◌, ◌<◌}
 use native.Mathlib.Omega.{arith}
-use mathlib.Core.Bool.{Bool, true, false, not, true≢false}
-use mathlib.Core.Logic.{◌↔◌}
+use mathlib.Core.Bool.{Bool, true, false, true≢false}
 use mathlib.Core.Path.{◌≡◌, refl, sym, ◌∙◌}
-use borrow.Author.Tests.{not-true, not-false}
+use lib.Dec.{eqb}
+use Rattle.std.proofs.lemmas.Bool.{eqb-true, eqb-false}
 use Rattle.ring.specs.declared.Element.{Element}
 use Rattle.ring.specs.Element.{root2, product}
-use Rattle.ring.specs.Divided.{Root2Divides}
 use Rattle.ring.proofs.Root2.{root2_cancel}
-use Rattle.ring.proofs.Divided.{over_root2, EvenPairs, divides, even_pairs, pairs_of_divided, divided_of_pairs}
+use Rattle.ring.proofs.Divided.{over_root2, divides, even_pairs, pairs_of_divided, divided_of_pairs}
 use Rattle.matrix.specs.declared.Matrix.{Matrix}
-use Rattle.matrix.specs.Matrix.{matrix, Same}
+use Rattle.matrix.specs.Matrix.{matrix, Same, Least}
 use Rattle.matrix.proofs.Entries.{equal_entries}
 use Rattle.matrix.proofs.Same.{same_trans, same_of_equal}
 use Rattle.matrix.proofs.Unitary.{unitary_same}
-use Rattle.matrix.proofs.Least.{Divisible, divided, same_divided, least_undivided}
+use Rattle.matrix.proofs.Least.{Divisible, divided, same_divided, least_undivided, least_at_zero}
 use Rattle.string_to_matrix.specs.Room.{Roomy, Reducible, Reduces, Lowered}
 
 -- an element divided by √2 is one element
@@ -46,24 +45,23 @@ lowered_by {m} v ea eb ec ed =
       lower = falls;
     }
 
--- what the test of an element says
-pub divides_where_told : {t : Bool} {x : Element} → (t ≡ true ↔ Root2Divides x) → not t ≡ false → Root2Divides x
-divides_where_told {t} told e = told.0 (not-false t e)
+-- a test that finds whether a record can be divided finds whether it is least
+divisible_is_reducible : {m : Matrix} → 0 < m.exponent → Divisible m → Reducible m
+divisible_is_reducible above v = record {
+  above_zero = above;
+  top_left = divided_of_pairs v.top_left;
+  top_right = divided_of_pairs v.top_right;
+  bottom_left = divided_of_pairs v.bottom_left;
+  bottom_right = divided_of_pairs v.bottom_right;
+}
 
-pub pairs_where_false : {t : Bool} {x : Element} → (t ≡ true ↔ Root2Divides x) → t ≡ false → EvenPairs x → ⊥
-pairs_where_false told e pairs = true≢false (sym (told.1 (divided_of_pairs pairs)) ∙ e)
-
-pub pairs_where_told : {t : Bool} {x : Element} → (t ≡ true ↔ Root2Divides x) → not t ≡ true → EvenPairs x → ⊥
-pairs_where_told {t} told e = pairs_where_false told (not-true t e)
-
--- the last element decides
-pub reduces_by_last : (t : Bool) {m : Matrix} → 0 < m.exponent →
-    Root2Divides m.top.left → Root2Divides m.top.right → Root2Divides m.bottom.left →
-    (t ≡ true ↔ Root2Divides m.bottom.right) → Reduces m t
-reduces_by_last true above a b c told =
-    record { above_zero = above; top_left = a; top_right = b; bottom_left = c; bottom_right = told.0 refl }
-reduces_by_last false {m} above a b c told =
-    least_undivided m (λ (v : Divisible m). true≢false (sym (told.1 (divided_of_pairs v.bottom_right))))
+pub reduces : (t : Bool) {m : Matrix} → (t ≡ true → Reducible m) → (Reducible m → t ≡ true) → Reduces m t
+reduces true found needed = found refl
+reduces false {m} found needed = by (eqb m.exponent 0) refl
+  where
+    by : (t : Bool) → eqb m.exponent 0 ≡ t → Least m
+    by true e = least_at_zero m (eqb-true m.exponent 0 e)
+    by false e = least_undivided m (λ (v : Divisible m). true≢false (sym (needed (divisible_is_reducible (omega (arith, eqb-false m.exponent 0 e)) v))))
 
 -- a record of equal meaning and no higher exponent has the same room
 pub roomy_lower : {m r : Matrix} → Same m r → r.exponent ≤ m.exponent → Roomy m → Roomy r

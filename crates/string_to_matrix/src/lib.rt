@@ -1,18 +1,19 @@
 // String to matrix: the least record of a string's matrix.
 #![tactic(auto)]
 
-ghost use Rattle.std.specs.Prelude.{◌≤◌, ◌≡◌};
+ghost use Rattle.std.specs.Prelude.{◌≤◌, ◌≡◌, ◌↔◌, true};
 ghost use Rattle.ring.specs.Element.{nothing};
 ghost use Rattle.ring.specs.Bounds.{Small};
+ghost use Rattle.ring.specs.Divided.{Root2Divides};
 ghost use Rattle.matrix.specs.Matrix.{matrix, identity, times, LeastRecord};
 ghost use Rattle.matrix.specs.Letter.{gate, matrix_of};
 ghost use Rattle.form.specs.Form.{Form, FormLetter};
 ghost use Rattle.form.specs.Count.{t_count};
-ghost use Rattle.answer.specs.Returned.{said};
+ghost use Rattle.answer.specs.Refusal.{said};
 ghost use Rattle.string_to_matrix.specs.Promise.{StringToMatrix};
 ghost use Rattle.string_to_matrix.specs.Room.{t_limit, Roomy, Reducible, Reduces, Lowered};
 
-use answer::{EXPONENT_LIMIT, FORM_LIMIT, Refusal, Returned, Written};
+use answer::{EXPONENT_LIMIT, FORM_LIMIT, Refusal};
 use matrix::{Matrix, Row};
 use ring::Element;
 
@@ -43,24 +44,21 @@ fn by_diagonal(u: Element, w: Element, m: Matrix) -> Matrix
     requires roomy { Roomy m }
     ensures { result ≡ times (matrix 0 u nothing nothing w) m }
 {
-    let a = m.top.left;
-    let b = m.top.right;
-    let c = m.bottom.left;
-    let d = m.bottom.right;
     Matrix {
         exponent: m.exponent,
         top: Row {
-            left: u.times(a),
-            right: u.times(b),
+            left: u.times(m.top.left),
+            right: u.times(m.top.right),
         },
         bottom: Row {
-            left: w.times(c),
-            right: w.times(d),
+            left: w.times(m.bottom.left),
+            right: w.times(m.bottom.right),
         },
     }
 }
 
 // A letter of a form, its matrix times a record. H and X are their own inverses: they come on as they are taken off.
+// That the record is roomy is asked here, and no type holds it: an H raises the exponent, and may take the product out of it.
 #[tactic(auto, using(crate::proofs::Gates::letter_products))]
 fn prefixed(letter: u8, m: Matrix) -> Matrix
     requires form_letter { FormLetter letter }
@@ -83,35 +81,24 @@ fn product_of(form: &[u8]) -> Matrix
     ensures { result ≡ matrix_of form.now }
 {
     let mut m = identity();
-    let mut done = 0;
-    while done < form.len() {
-        done += 1;
-        m = prefixed(form[form.len() - done], m);
+    for letter in form.iter().rev() {
+        m = prefixed(*letter, m);
     }
     m
+}
+
+// Whether √2 divides both elements of a row.
+fn divides_by_root2(row: Row) -> bool
+    ensures { result ≡ true ↔ Root2Divides row.left × Root2Divides row.right }
+{
+    row.left.divides_by_root2() && row.right.divides_by_root2()
 }
 
 // Whether the exponent can fall: √2 divides every element.
 fn reducible(m: Matrix) -> bool
     ensures { Reduces m result }
 {
-    if m.exponent == 0 {
-        return false;
-    }
-    let a = m.top.left;
-    let b = m.top.right;
-    let c = m.bottom.left;
-    let d = m.bottom.right;
-    if !a.divides_by_root2() {
-        return false;
-    }
-    if !b.divides_by_root2() {
-        return false;
-    }
-    if !c.divides_by_root2() {
-        return false;
-    }
-    d.divides_by_root2()
+    m.exponent != 0 && divides_by_root2(m.top) && divides_by_root2(m.bottom)
 }
 
 // The elements divided by √2, at one exponent less.
@@ -120,19 +107,15 @@ fn lowered(m: Matrix) -> Matrix
     requires reducible { Reducible m }
     ensures { Lowered m result }
 {
-    let a = m.top.left;
-    let b = m.top.right;
-    let c = m.bottom.left;
-    let d = m.bottom.right;
     Matrix {
         exponent: m.exponent - 1,
         top: Row {
-            left: a.over_root2(),
-            right: b.over_root2(),
+            left: m.top.left.over_root2(),
+            right: m.top.right.over_root2(),
         },
         bottom: Row {
-            left: c.over_root2(),
-            right: d.over_root2(),
+            left: m.bottom.left.over_root2(),
+            right: m.bottom.right.over_root2(),
         },
     }
 }
@@ -151,7 +134,7 @@ fn least(m: Matrix) -> Matrix
 
 // A form with few T's, multiplied out and reduced.
 #[tactic(auto, using(crate::proofs::High::form_refused, crate::proofs::High::form_answered))]
-fn of_form(form: &[u8]) -> Returned
+fn of_form(form: &[u8]) -> Result<Matrix, Refusal>
     requires form { Form form.now }
     requires form_bound { t_count form.now ≤ t_limit }
     ensures { StringToMatrix form.now (said result) }
@@ -159,31 +142,20 @@ fn of_form(form: &[u8]) -> Returned
     let product = product_of(form);
     let record = least(product);
     if EXPONENT_LIMIT < record.exponent {
-        return Returned::Refused(Refusal::HighLeastExponent);
+        return Err(Refusal::HighLeastExponent);
     }
-    Returned::Record(record)
-}
-
-// Room for the form of any string within the limit.
-fn room() -> [u8; FORM_LIMIT] {
-    [0u8; FORM_LIMIT]
+    Ok(record)
 }
 
 // String to matrix. A form with many T's has a least exponent above the limit, which is known without its matrix.
 #[tactic(auto, using(crate::proofs::Squeezed::refused_too, crate::proofs::Squeezed::formed_many, crate::proofs::Squeezed::formed_answer))]
-pub fn string_to_matrix(text: &[u8]) -> Returned
+pub fn string_to_matrix(text: &[u8]) -> Result<Matrix, Refusal>
     ensures { StringToMatrix text.now (said result) }
 {
-    let mut form = room();
-    let written = string_to_form::string_to_form(text, &mut form);
-    match written {
-        Written::Form(figures) => {
-            if T_LIMIT < figures.tcount {
-                return Returned::Refused(Refusal::HighLeastExponent);
-            }
-            let length = figures.length;
-            of_form(&form[..length])
-        }
-        Written::Refused(refusal) => Returned::Refused(refusal),
+    let mut form = [0; FORM_LIMIT];
+    let figures = string_to_form::string_to_form(text, &mut form)?;
+    if T_LIMIT < figures.tcount {
+        return Err(Refusal::HighLeastExponent);
     }
+    of_form(&form[..figures.length])
 }
