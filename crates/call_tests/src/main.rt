@@ -3,295 +3,142 @@
 #![tactic(auto)]
 
 ghost use Rattle.std.specs.Prelude.{◌≡◌, ◌+◌, ◌≤◌, length};
-ghost use Rattle.call_tests.specs.Room.{room};
-ghost use Rattle.answer.specs.Limits.{form_limit, frame_length};
+ghost use Rattle.arrayvec.specs.ArrayVec.{array_vec_len};
 
-use answer::{FORM_LIMIT, FRAME_LENGTH, Refusal, Returned};
-use compare::{Compared, Which};
-use frame::Stored;
-use lines::{Next, Progress};
-use matrix::{Matrix, Row};
+use answer::{FORM_LIMIT, FRAME_LENGTH, Refusal};
+use arrayvec::ArrayVec;
+use compare::{Refused, Relation, Which};
+use lines::{Lines, put};
+use matrix::Matrix;
 use memchr::memchr;
-use read_form::{Read, Reading};
-use ring::Element;
-
-// The longest line, that of a matrix.
-const ROOM: usize = 376;
+use read_form::Reading;
+use report::{put_field, put_number, put_refusal};
 
 // `read ` and one byte more than a form may have, so that a longer text is seen to be longer. A comparison's two strings
 // need less.
-fn line_buffer() -> [u8; FORM_LIMIT + 6]
-    ensures { form_limit + 6 ≡ length result }
-{
-    [0; FORM_LIMIT + 6]
-}
+const LINE: usize = FORM_LIMIT + 6;
 
-fn frame_buffer() -> [u8; FRAME_LENGTH]
-    ensures { frame_length ≡ length result }
+// The longest answer, that of a matrix: `ok`, an exponent, sixteen coefficients with their signs, and a line end.
+const ROOM: usize = 376;
+
+// The line of an answer.
+type Answer = ArrayVec<u8, ROOM>;
+
+fn answer_of(text: &[u8]) -> Answer
+    requires { length text.now ≤ ROOM }
+    ensures { result.items ≡ text.now }
 {
-    [0; FRAME_LENGTH]
+    let mut answer = Answer::new();
+    put(&mut answer, text);
+    answer
 }
 
 // A whole number after a space.
-fn put_signed(z: i64, output: &mut [u8], at: usize) -> usize
-    requires { at + 22 ≤ length output.old }
-    ensures { result ≤ at + 22 }
+fn put_signed(answer: &mut Answer, z: i64)
+    requires { array_vec_len answer.old + 22 ≤ ROOM }
+    ensures { array_vec_len answer.new ≤ array_vec_len answer.old + 22 }
 {
-    if z >= 0 {
-        return report::put_field(z as u64, output, at);
+    if z < 0 {
+        put(answer, b" -");
+    } else {
+        put(answer, b" ");
     }
-    let sign = lines::put(b" -", output, at);
-    report::put_number((-(z + 1)) as u64 + 1, output, sign)
-}
-
-fn put_element(e: Element, output: &mut [u8], at: usize) -> usize
-    requires { at + 88 ≤ length output.old }
-    ensures { result ≤ at + 88 }
-{
-    let first = put_signed(e.a0, output, at);
-    let second = put_signed(e.a1, output, first);
-    let third = put_signed(e.a2, output, second);
-    put_signed(e.a3, output, third)
-}
-
-fn put_row(row: Row, output: &mut [u8], at: usize) -> usize
-    requires { at + 176 ≤ length output.old }
-    ensures { result ≤ at + 176 }
-{
-    let left = put_element(row.left, output, at);
-    put_element(row.right, output, left)
+    put_number(answer, z.unsigned_abs());
 }
 
 // `ok`, the exponent and the sixteen coefficients.
-fn put_matrix(m: Matrix, output: &mut [u8], at: usize) -> usize
-    requires { at + room ≤ length output.old }
-    ensures { result ≤ at + room }
-{
-    let word = lines::put(b"ok", output, at);
-    let exponent = report::put_field(m.exponent as u64, output, word);
-    let top = put_row(m.top, output, exponent);
-    let bottom = put_row(m.bottom, output, top);
-    lines::put(b"\n", output, bottom)
+fn matrix_answer(m: Matrix) -> Answer {
+    let mut answer = answer_of(b"ok");
+    put_field(&mut answer, m.exponent as u64);
+    for z in coefficients::coefficients(m) {
+        put_signed(&mut answer, z);
+    }
+    put(&mut answer, b"\n");
+    answer
 }
 
 // `ok`, length, T-count, H-count and tail number.
-fn put_reading(reading: Reading, output: &mut [u8], at: usize) -> usize
-    requires { at + room ≤ length output.old }
-    ensures { result ≤ at + room }
-{
-    let head = report::put_head(
-        b"ok",
-        reading.length as u64,
-        reading.tcount as u64,
-        output,
-        at,
-    );
-    let rest = report::put_head(
-        b"",
-        reading.hcount as u64,
-        reading.tail as u64,
-        output,
-        head,
-    );
-    lines::put(b"\n", output, rest)
+fn reading_answer(reading: Reading) -> Answer {
+    let figures = reading.figures;
+    let mut answer = answer_of(b"ok");
+    put_field(&mut answer, figures.length as u64);
+    put_field(&mut answer, figures.tcount as u64);
+    put_field(&mut answer, figures.hcount as u64);
+    put_field(&mut answer, reading.tail as u64);
+    put(&mut answer, b"\n");
+    answer
+}
+
+fn relation_answer(relation: Relation) -> Answer {
+    match relation {
+        Relation::Same => answer_of(b"same\n"),
+        Relation::Different => answer_of(b"different\n"),
+        Relation::Phase(phase) => {
+            let mut answer = answer_of(b"phase");
+            put_field(&mut answer, phase as u64);
+            put(&mut answer, b"\n");
+            answer
+        }
+    }
+}
+
+// `no`, refusal, place.
+fn refusal_answer(refusal: Refusal) -> Answer {
+    let mut answer = Answer::new();
+    put_refusal(&mut answer, refusal);
+    answer
 }
 
 // `no`, refusal, place, and which string it concerns.
-fn put_refused(which: Which, refusal: Refusal, output: &mut [u8], at: usize) -> usize
-    requires { at + room ≤ length output.old }
-    ensures { result ≤ at + room }
-{
-    let head = report::put_head(
-        b"no",
-        refusal.number() as u64,
-        refusal.place() as u64,
-        output,
-        at,
-    );
-    match which {
-        Which::First => lines::put(b" first\n", output, head),
-        Which::Second => lines::put(b" second\n", output, head),
+fn refused_answer(refused: Refused) -> Answer {
+    let mut answer = answer_of(b"no");
+    put_field(&mut answer, refused.refusal.number() as u64);
+    put_field(&mut answer, refused.refusal.place() as u64);
+    match refused.which {
+        Which::First => put(&mut answer, b" first\n"),
+        Which::Second => put(&mut answer, b" second\n"),
     }
+    answer
 }
 
-fn put_phase(phase: usize, output: &mut [u8], at: usize) -> usize
-    requires { at + room ≤ length output.old }
-    ensures { result ≤ at + room }
-{
-    let word = lines::put(b"phase", output, at);
-    let number = report::put_field(phase as u64, output, word);
-    lines::put(b"\n", output, number)
+// A frame read and written again.
+fn frame_again(text: &[u8]) -> Result<Answer, Refusal> {
+    let mut frame = [0; FRAME_LENGTH];
+    frame::matrix_to_frame(frame::frame_to_matrix(text)?, &mut frame)?;
+    let mut answer = answer_of(b"ok ");
+    put(&mut answer, &frame);
+    put(&mut answer, b"\n");
+    Ok(answer)
 }
 
-fn read_line(text: &[u8], output: &mut [u8], at: usize) -> usize
-    requires { at + room ≤ length output.old }
-    ensures { result ≤ at + room }
-{
-    match read_form::read_form(text) {
-        Read::Form(reading) => put_reading(reading, output, at),
-        Read::Refused(refusal) => report::put_refusal(refusal, output, at),
-    }
-}
-
-fn put_compared(compared: Compared, output: &mut [u8], at: usize) -> usize
-    requires { at + room ≤ length output.old }
-    ensures { result ≤ at + room }
-{
-    match compared {
-        Compared::Same => lines::put(b"same\n", output, at),
-        Compared::Phase(phase) => put_phase(phase, output, at),
-        Compared::Different => lines::put(b"different\n", output, at),
-        Compared::Refused { which, refusal } => put_refused(which, refusal, output, at),
-    }
-}
-
-// The first string ends at the first space.
-fn compare_line(texts: &[u8], output: &mut [u8], at: usize) -> usize
-    requires { at + room ≤ length output.old }
-    ensures { result ≤ at + room }
-{
-    let first = first_word(texts);
-    let end = first.end;
-    let next = first.next;
-    let compared = compare::compare(&texts[0..end], &texts[next..]);
-    put_compared(compared, output, at)
-}
-
-fn matrix_line(text: &[u8], output: &mut [u8], at: usize) -> usize
-    requires { at + room ≤ length output.old }
-    ensures { result ≤ at + room }
-{
-    match string_to_matrix::string_to_matrix(text) {
-        Returned::Record(m) => put_matrix(m, output, at),
-        Returned::Refused(refusal) => report::put_refusal(refusal, output, at),
-    }
-}
-
-// A record written as a frame again.
-fn put_frame(m: Matrix, output: &mut [u8], at: usize) -> usize
-    requires { at + room ≤ length output.old }
-    ensures { result ≤ at + room }
-{
-    let mut frame = frame_buffer();
-    match frame::matrix_to_frame(m, &mut frame) {
-        Stored::Frame => {
-            let word = lines::put(b"ok ", output, at);
-            let digits = lines::put(&frame, output, word);
-            lines::put(b"\n", output, digits)
-        }
-        Stored::Refused(refusal) => report::put_refusal(refusal, output, at),
-    }
-}
-
-fn frame_line(text: &[u8], output: &mut [u8], at: usize) -> usize
-    requires { at + room ≤ length output.old }
-    ensures { result ≤ at + room }
-{
-    match frame::frame_to_matrix(text) {
-        Returned::Record(m) => put_frame(m, output, at),
-        Returned::Refused(refusal) => report::put_refusal(refusal, output, at),
-    }
-}
-
-// Where a word ends, and what comes after the space behind it begins.
-#[derive(Clone, Copy)]
-struct Word {
-    end: usize,
-    next: usize,
-}
-
-fn first_word(text: &[u8]) -> Word
-    ensures { (result.end ≤ length text.now) × (result.next ≤ length text.now) }
-{
+// A text's first word, and what comes after the space behind it.
+fn split_word(text: &[u8]) -> (&[u8], &[u8]) {
     match memchr(b' ', text) {
-        Some(end) => Word { end, next: end + 1 },
-        None => Word {
-            end: text.len(),
-            next: text.len(),
-        },
+        Some(end) => (&text[..end], &text[end + 1..]),
+        None => (text, &[]),
     }
 }
 
-// The call that a line names.
-#[derive(Clone, Copy)]
-enum Call {
-    Read,
-    Compare,
-    Matrix,
-    Frame,
-    Other,
+fn compared(texts: &[u8]) -> Answer {
+    let (first, second) = split_word(texts);
+    compare::compare(first, second).map_or_else(refused_answer, relation_answer)
 }
 
-fn call_of(name: &[u8]) -> Call {
-    match name {
-        b"read" => Call::Read,
-        b"compare" => Call::Compare,
-        b"matrix" => Call::Matrix,
-        b"frame" => Call::Frame,
-        _ => Call::Other,
-    }
-}
-
-fn answer_call(call: Call, text: &[u8], output: &mut [u8], at: usize) -> usize
-    requires { at + room ≤ length output.old }
-    ensures { result ≤ at + room }
-{
-    match call {
-        Call::Read => read_line(text, output, at),
-        Call::Compare => compare_line(text, output, at),
-        Call::Matrix => matrix_line(text, output, at),
-        Call::Frame => frame_line(text, output, at),
-        Call::Other => lines::put(b"no such call\n", output, at),
-    }
-}
-
-fn answer(line: &[u8], output: &mut [u8], at: usize) -> usize
-    requires { at + room ≤ length output.old }
-    ensures { result ≤ at + room }
-{
-    let name = first_word(line);
-    let end = name.end;
-    let next = name.next;
-    let call = call_of(&line[0..end]);
-    answer_call(call, &line[next..], output, at)
-}
-
-// The number of turns is one that no input uses up.
-#[tactic(auto, unfolding(lines::specs::Progress::Ready))]
-fn run<R: std::io::Read, W: std::io::Write>(
-    reader: &mut R,
-    writer: &mut W,
-    input: &mut [u8],
-    line: &mut [u8],
-    output: &mut [u8],
-)
-    requires { room ≤ length output.old }
-{
-    let mut progress = Progress::start();
-    let mut turns = u64::MAX;
-    while turns > 0 {
-        turns -= 1;
-        let Next::Line {
-            length,
-            progress: next,
-        } = lines::next_line(reader, writer, input, line, output, progress, ROOM)
-        else {
-            return;
-        };
-        let put = answer(&line[..length], output, next.put);
-        progress = next.with(put);
-    }
+// The answer to a line, which names a call.
+fn answer(line: &[u8]) -> Answer {
+    let (name, text) = split_word(line);
+    let answered = match name {
+        b"read" => read_form::read_form(text).map(reading_answer),
+        b"compare" => Ok(compared(text)),
+        b"matrix" => string_to_matrix::string_to_matrix(text).map(matrix_answer),
+        b"frame" => frame_again(text),
+        _ => Ok(answer_of(b"no such call\n")),
+    };
+    answered.unwrap_or_else(refusal_answer)
 }
 
 fn main(rt: HostRuntime) {
-    let mut input = io::large_buffer();
-    let mut line = line_buffer();
-    let mut output = io::large_buffer();
-    run(
-        &mut rt.stdin(),
-        &mut rt.stdout(),
-        &mut input,
-        &mut line,
-        &mut output,
-    );
+    let mut lines: Lines<_, _, LINE> = Lines::new(rt.stdin(), rt.stdout());
+    // Where reading or writing fails, the program ends as at the end of the input.
+    let _ = lines.each_line(ROOM, |line, output| put(output, &answer(line)));
 }

@@ -1,15 +1,14 @@
 -- Document 01, "The programs": the second program "reads frames instead".
-use Rattle.std.specs.Prelude.{ℕ, List}
+use Rattle.std.specs.Prelude.{ℕ, List, ◌++◌, ◌≡◌}
 use Rattle.answer.specs.declared.Figures.{Figures}
 use Rattle.answer.specs.Refusal.{Said}
 use Rattle.frame_to_form.specs.Promise.{FrameToForm}
-use Rattle.lines.specs.Put.{Put}
 use Rattle.report.specs.Report.{answer_line}
 
--- The line put into the output block for a text: that of the answer which frame to form gives to the text, with the form
--- in the buffer that it leaves.
-pub record Answered (text buffer : List ℕ) (at : ℕ) (before after : List ℕ) (next : ℕ) : Type 0 where
+-- The line added to the output for a text: that of the answer which frame to form gives to the text, with the form in the
+-- buffer that it leaves.
+pub record Answered (text buffer before after : List ℕ) : Type 0 where
   pub answer : Said Figures
   pub left : List ℕ
   pub promised : FrameToForm text buffer answer left
-  pub line : Put at (answer_line answer left) before after next
+  pub line : after ≡ before ++ answer_line answer left
