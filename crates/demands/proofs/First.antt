@@ -5,17 +5,18 @@ use mathlib.Core.Path.{◌≡◌, refl, ap, subst}
 use mathlib.Core.List.{List}
 use mathlib.Core.Logic.{◌↔◌}
 use Prim.Native.Nat.{ℕ}
+use Rattle.std.specs.Prelude.{Result}
 use Rattle.matrix.specs.declared.Matrix.{Matrix}
 use Rattle.matrix.specs.Matrix.{Same}
 use Rattle.matrix.specs.Letter.{matrix_of}
 use Rattle.matrix.proofs.Same.{same_sym, same_trans, same_of_equal}
 use Rattle.form.specs.Form.{Form}
 use Rattle.answer.specs.declared.Figures.{Figures}
-use Rattle.answer.specs.declared.Written.{Written}
-use Rattle.answer.specs.Refusal.{Said, refused, refusal}
-use Rattle.answer.specs.Written.{said, PutForm, no_room}
+use Rattle.answer.specs.declared.Refusal.{Refusal}
+use Rattle.answer.specs.Refusal.{Said, refused, refusal, said}
+use Rattle.answer.specs.Written.{PutForm, no_room}
 use Rattle.answer.proofs.Put.{put_refused, put_once}
-use Rattle.answer.proofs.Told.{written_told}
+use Rattle.answer.proofs.Told.{said_told}
 use Rattle.demands.specs.Input.{Input, Promised}
 use Rattle.demands.specs.Answer.{ByTable, for_the_input, for_want_of_room}
 use Rattle.demands.proofs.Cases.{Case, of_input, of_form, promised_case, refused_once, refused_or_accepted, accepted_once}
@@ -39,9 +40,9 @@ pub answers_once : {i : Input} {before after after' : List ℕ} {answer answer' 
 answers_once p q = cases_once (promised_case p) (promised_case q)
 
 -- so the value that is returned is one
-pub returns_once : {i : Input} {before after after' : List ℕ} (a b : Written) →
+pub returns_once : {i : Input} {before after after' : List ℕ} (a b : Result Figures Refusal) →
     Promised i before (said a) after → Promised i before (said b) after' → (a ≡ b) × (after ≡ after')
-returns_once a b p q = let once = answers_once p q in (written_told a b once.0, once.1)
+returns_once a b p q = let once = answers_once p q in (said_told a b once.0, once.1)
 
 case_refused : {i : Input} {before after : List ℕ} {n p : ℕ} → Case i before (refused n p) after → after ≡ before
 case_refused (of_input r) = refl
