@@ -2,7 +2,6 @@
 #![tactic(auto)]
 
 ghost use Rattle.std.specs.Prelude.{◌≤◌, ◌^◌, true, ◌↔◌, ◌≡◌, pos};
-ghost use Rattle.ring.specs.Element.{nothing};
 ghost use Rattle.ring.specs.Bounds.{Small};
 ghost use Rattle.matrix.specs.Matrix.{Unitary, column_product};
 ghost use Rattle.answer.specs.Limits.{exponent_limit, coefficient_limit};
@@ -11,7 +10,7 @@ ghost use Rattle.accept_record.specs.Accept.{in_limit, Inside, Judged};
 ghost use Rattle.accept_record.specs.Column.{UnitColumn};
 
 use answer::{COEFFICIENT_LIMIT, EXPONENT_LIMIT, Refusal};
-use matrix::{Matrix, Row};
+use matrix::Matrix;
 use ring::Element;
 
 // Whether a coefficient is inside its limit.
@@ -34,49 +33,35 @@ fn power(k: u32) -> i64
     requires { k ≤ exponent_limit }
     ensures { result ≡ pos (2 ^ k) }
 {
-    let p: u64 = 1 << k;
-    p as i64
+    1 << k
 }
 
-// The column (x, y) times the conjugate of the column (u, v).
-fn column_product(x: Element, y: Element, u: Element, v: Element) -> Element
-    requires small { Small coefficient_limit x }
-    requires small_2 { Small coefficient_limit y }
-    requires small_3 { Small coefficient_limit u }
-    requires small_4 { Small coefficient_limit v }
-    ensures { result ≡ column_product x y u v }
-{
-    let above = x.times(u.conjugated());
-    let below = y.times(v.conjugated());
-    above.plus(below)
+// A column of a record inside the limits.
+#[derive(Clone, Copy)]
+struct Column {
+    top: Element,
+    bottom: Element,
+    ghost top_small: { Small coefficient_limit top },
+    ghost bottom_small: { Small coefficient_limit bottom },
 }
 
-// Whether a column's squared sizes sum to 2^k with no √2 part: they are the column times its own conjugate.
-fn is_unit(top: Element, bottom: Element, power: i64) -> bool
-    requires small { Small coefficient_limit top }
-    requires small_2 { Small coefficient_limit bottom }
-    ensures { result ≡ true ↔ UnitColumn top bottom power }
-{
-    let size = column_product(top, bottom, top, bottom);
-    if size.a0 != power {
-        return false;
+impl Column {
+    // The column times the conjugate of another.
+    fn product(self, other: Column) -> Element
+        ensures { result ≡ column_product self.top self.bottom other.top other.bottom }
+    {
+        let above = self.top.times(other.top.conjugated());
+        let below = self.bottom.times(other.bottom.conjugated());
+        above.plus(below)
     }
-    size.a1 == 0
-}
 
-fn is_nothing(x: Element) -> bool
-    ensures { result ≡ true ↔ x ≡ nothing }
-{
-    if x.a0 != 0 {
-        return false;
+    // Whether the squared sizes sum to 2^k with no √2 part: they are the column times its own conjugate.
+    fn is_unit(self, power: i64) -> bool
+        ensures { result ≡ true ↔ UnitColumn self.top self.bottom power }
+    {
+        let size = self.product(self);
+        size.a0 == power && size.a1 == 0
     }
-    if x.a1 != 0 {
-        return false;
-    }
-    if x.a2 != 0 {
-        return false;
-    }
-    x.a3 == 0
 }
 
 // The eight equations.
@@ -84,14 +69,16 @@ fn is_unitary(m: Matrix) -> bool
     requires { Inside m }
     ensures { result ≡ true ↔ Unitary m }
 {
+    let left = Column {
+        top: m.top.left,
+        bottom: m.bottom.left,
+    };
+    let right = Column {
+        top: m.top.right,
+        bottom: m.bottom.right,
+    };
     let two_to_k = power(m.exponent);
-    if !is_unit(m.top.left, m.bottom.left, two_to_k) {
-        return false;
-    }
-    if !is_unit(m.top.right, m.bottom.right, two_to_k) {
-        return false;
-    }
-    is_nothing(column_product(m.top.left, m.bottom.left, m.top.right, m.bottom.right))
+    left.is_unit(two_to_k) && (right.is_unit(two_to_k) && left.product(right) == Element::NOTHING)
 }
 
 // The limits in their order, and then the test for unitary.

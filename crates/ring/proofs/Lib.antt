@@ -5,3 +5,4 @@ pub mod Bounds
 pub mod Halving
 pub mod Divided
 pub mod Halves
+pub mod Equal

@@ -17,9 +17,6 @@ module _ {k : ℕ} (h : k ≤ exponent_limit) where
   shifted : (1 * 2 ^ k) % 2 ^ 64 ≡ 2 ^ k
   shifted = ap (λ (n : ℕ). n % 2 ^ 64) (one-mul (2 ^ k)) ∙ mod-eq_of_lt (lt_of_le_of_lt (pow_mono h) (lit< tt))
 
-pub overflow_cast-result : goal.overflow_cast-result
-overflow_cast-result c = record { sfits = subst (λ (n : ℕ). n < 2 ^ 63) (sym (shifted c.requires)) (small c.requires) }
-
 pub returns : goal.returns
 returns c =
     to_z_pos w64 (subst (λ (n : ℕ). n < 2 ^ 63) (sym (shifted c.requires)) (small c.requires))
