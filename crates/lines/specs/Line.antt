@@ -1,6 +1,6 @@
 -- Document 01, "The programs": lines. A line is the bytes up to the next line end, or up to the end of the input; of a
 -- longer line its first bytes are kept, as many as the line buffer holds.
-use Rattle.std.specs.Prelude.{ℕ, ◌+◌, Option, Some, None, Result, Ok, Err, Bool, true, not, ◌==◌, List, [], ◌∷◌, ◌++◌, ◌≡◌, length, take, drop}
+use Rattle.std.specs.Prelude.{ℕ, ◌+◌, Option, Some, None, Result, Ok, Err, Bool, true, false, not, ◌==◌, List, [], ◌∷◌, ◌++◌, ◌≡◌, length, take, drop}
 
 abbrev pub line_end : ℕ
 line_end = 10
@@ -35,3 +35,12 @@ pub data Turns (room : ℕ) {E : Type 0} : (part so_far : List ℕ) → Result B
   ended :
       {part so_far line : List ℕ} → Takes part so_far room None line → Turns room part so_far (Ok (last line)) line []
   failed : {part so_far line rest : List ℕ} {error : E} → Turns room part so_far (Err error) line rest
+
+-- How the lines are answered from the part of the input that is still to be taken: each one that comes is given to what
+-- answers, as the lines before have left it, until no further line comes; or reading or writing fails. `Gives` is one answer.
+pub data Answers (room : ℕ) {E F : Type 0} (Gives : F → List ℕ → F → Type 0) : (part : List ℕ) → F → Result (Unit {0}) E → Type 0 where
+  over : {part line rest : List ℕ} {f : F} → Turns room {E = E} part [] (Ok false) line rest → Answers room Gives part f (Ok tt)
+  answered :
+      {part line rest : List ℕ} {f f' : F} {result : Result (Unit {0}) E} → Turns room {E = E} part [] (Ok true) line rest →
+      Gives f line f' → Answers room Gives rest f' result → Answers room Gives part f result
+  failed : {part : List ℕ} {f : F} {error : E} → Answers room Gives part f (Err error)

@@ -3,7 +3,8 @@
 
 ghost use Rattle.std.specs.Prelude.{false, ℕ, List, ◌≡◌, ◌+◌, ◌≤◌, ◌++◌, [], length, take, drop, slice_range, OnOk, IfOk};
 ghost use Rattle.arrayvec.specs.ArrayVec.{array_vec_len};
-ghost use Rattle.lines.specs.Line.{Takes, last, Turns};
+ghost use Rattle.lines.specs.Calls.{CalledAtLine};
+ghost use Rattle.lines.specs.Line.{Takes, last, Turns, Answers};
 
 use arrayvec::ArrayVec;
 use memchr::memchr;
@@ -186,7 +187,8 @@ impl<R: Read + Drop, W: Write + Drop, const N: usize> Lines<R, W, N> {
         Err(io::Error::from(ErrorKind::Other))
     }
 
-    // Answers each line: `answer` adds its answer to the output, where there is room for so many bytes.
+    // Answers each line: `answer` adds its answer to the output, where there is room for so many bytes. Of a line at most
+    // its first `N` bytes are given.
     pub fn each_line<F: FnMut(&[u8], &mut Output)>(
         &mut self,
         room: usize,
@@ -194,14 +196,15 @@ impl<R: Read + Drop, W: Write + Drop, const N: usize> Lines<R, W, N> {
     ) -> io::Result<()>
         requires room { room ≤ BLOCK }
         requires callable { (state : F) (line : _) (output : _) → length line.now ≤ N → array_vec_len output.now + room ≤ BLOCK → F.pre state line output }
-        ensures { OnOk result (self.new.output.items ≡ []) }
+        ensures answered { Answers N (CalledAtLine F.FnMut) self.old.input answer result }
+        ensures written { OnOk result (self.new.output.items ≡ []) }
     {
         for _ in 0..u64::MAX {
             if !self.next_line(room)? {
-                break;
+                return self.write_out();
             }
             answer(&self.line, &mut self.output);
         }
-        self.write_out()
+        Err(io::Error::from(ErrorKind::Other))
     }
 }

@@ -1,0 +1,11 @@
+-- As the lines are answered from here on, so they are from the start.
+use Rattle.std.specs.Prelude.{Result}
+use Rattle.std.specs.declared.io.Error.{Error}
+use Rattle.lines.specs.Calls.{CalledAtLine}
+use Rattle.lines.specs.Line.{Answers}
+use Rattle.lines.proofs.Lines.each_line.Given as goal
+
+abbrev pub invariant-loop : goal.invariant-loop
+invariant-loop g l =
+    (result : Result (Unit {0}) Error) → Answers g.row.N (CalledAtLine g.F.FnMut) l.self.input l.answer result →
+    Answers g.row.N (CalledAtLine g.F.FnMut) l.fn.self.input l.fn.answer result
