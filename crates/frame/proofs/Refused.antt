@@ -6,8 +6,9 @@ use Rattle.answer.specs.Limits.{frame_length}
 use Rattle.answer.specs.Refusal.{accepted, refusal}
 use Rattle.answer.specs.Written.{put}
 use Rattle.accept_record.specs.Accept.{AcceptedRecord}
+use Rattle.frame.specs.Digit.{FirstBadDigit}
 use Rattle.frame.specs.Frame.{check_word, frame_text}
-use Rattle.frame.specs.Calls.{short, long, bad_frame, FrameToMatrix, refused_frame, MatrixToFrame, no_room, framed}
+use Rattle.frame.specs.Calls.{short, long, bad_digit, bad_frame, FrameToMatrix, refused_frame, MatrixToFrame, no_room, framed}
 
 -- ---- frame to matrix
 pub short_frame : (text : List ℕ) → length text < frame_length → FrameToMatrix text (refusal (BadFrame (length text)))
@@ -15,6 +16,9 @@ short_frame text h = refused_frame (bad_frame (short h))
 
 pub long_frame : (text : List ℕ) → frame_length < length text → FrameToMatrix text (refusal (BadFrame frame_length))
 long_frame text h = refused_frame (bad_frame (long h))
+
+pub wrong_digit : {text : List ℕ} {p : ℕ} → length text ≡ frame_length → FirstBadDigit text p → FrameToMatrix text (refusal (BadFrame p))
+wrong_digit h b = refused_frame (bad_frame (bad_digit h b))
 
 -- ---- matrix to frame
 pub short_buffer :

@@ -5,7 +5,9 @@ use Rattle.lists.specs.List.{none, more}
 use Rattle.lists.proofs.List.{every_join}
 use Rattle.ring.specs.Bounds.{Bounded}
 use Rattle.answer.specs.Limits.{coefficient_limit}
-use Rattle.accept_record.specs.Accept.{InLimits}
+use Rattle.matrix.specs.declared.Matrix.{Matrix}
+use Rattle.coefficients.specs.Coefficients.{coefficients}
+use Rattle.accept_record.specs.Accept.{InLimits, AcceptedRecord}
 use Rattle.accept_record.proofs.Limits.{bounded_in_limit}
 use Rattle.frame.specs.Digit.{digits, Digits}
 use Rattle.frame.specs.Frame.{word, words, words_text, InWord, from_zero, below_zero, InWords}
@@ -33,6 +35,9 @@ in_word (negsuc n) h = below_zero {n = n} (omega (arith, h.size))
 pub in_words : {list : List ℤ} → InLimits list → InWords list
 in_words none = none
 in_words (more {a = z} e h) = more (in_word z (bounded_in_limit z e)) (in_words h)
+
+pub accepted_in_words : {m : Matrix} → AcceptedRecord m → InWords (coefficients m)
+accepted_in_words a = in_words a.inside.coefficients
 
 -- a coefficient's bits are its word, and a word's bits are a coefficient of that word
 pub word_unsigned : (z : ℤ) → cast_unsigned w32 z ≡ word z

@@ -153,7 +153,7 @@ fn read_digits(text: &[u8]) -> Result<Matrix, Refusal>
 }
 
 // Frame to matrix.
-#[tactic(auto, using(crate::proofs::Refused::short_frame, crate::proofs::Refused::long_frame))]
+#[tactic(auto, using(crate::proofs::Refused::short_frame, crate::proofs::Refused::long_frame, crate::proofs::Refused::wrong_digit))]
 pub fn frame_to_matrix(text: &[u8]) -> Result<Matrix, Refusal>
     ensures { FrameToMatrix text.now (said result) }
 {
@@ -187,7 +187,7 @@ fn write_digits(buffer: &mut [u8], m: Matrix)
 }
 
 // Matrix to frame.
-#[tactic(auto, using(crate::proofs::Refused::short_buffer, crate::proofs::Refused::long_buffer))]
+#[tactic(auto, using(crate::specs::Calls::refused_record, crate::proofs::Refused::short_buffer, crate::proofs::Refused::long_buffer, crate::proofs::Words::accepted_in_words))]
 pub fn matrix_to_frame(m: Matrix, buffer: &mut [u8]) -> Result<(), Refusal>
     ensures { MatrixToFrame m buffer.old (said result) buffer.new }
 {

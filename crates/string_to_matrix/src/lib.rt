@@ -21,6 +21,7 @@ use ring::Element;
 const T_LIMIT: usize = 2 * (EXPONENT_LIMIT as usize) + 1;
 
 // The matrix of the empty string.
+#[tactic(auto, unfolding(matrix::specs::Matrix::identity, ring::specs::Element::nothing, ring::specs::Element::one))]
 fn identity() -> Matrix
     ensures { result ≡ identity }
 {

@@ -5,8 +5,5 @@ use Rattle.lists.proofs.Position.{finds_from_position}
 use Rattle.frame.specs.Digit.{is_digit}
 use Rattle.frame.proofs.first_bad_digit.Goals as goal
 
-pub returns-then-are_digits : goal.returns-then-are_digits
-returns-then-are_digits c = c.are_digits.ensures.0 c.if-are_digits.true
-
 pub returns : goal.returns
 returns c = finds_from_position is_digit _ _ _ c.position.ensures.ran (YieldsList-from_slice c.args.text.now cc) (λ x b q k. search rules)
