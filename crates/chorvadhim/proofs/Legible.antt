@@ -72,7 +72,7 @@ frame_to_form_legible (FrameToForm.with_form accepted form same put) =
     put_legible (form_of_record_within accepted.record_accepted form same) put
 
 pub read_form_legible : {text : List ℕ} {answer : Said Reading} → ReadForm text answer → Legible LegibleReading answer
-unfolding reading_of
+unfolding reading_of figures_of
 read_form_legible (ReadForm.too_long h) = omega arith
 read_form_legible (ReadForm.bad_letter h bad) = omega (arith, fails_within bad)
 read_form_legible (ReadForm.not_form h letters not longest) = omega (arith, longest.within)

@@ -53,7 +53,7 @@ figures_told (refused n o) (refused m r) p q e = refusal_made (omega arith) (ome
 -- the form reader's answer
 
 abbrev reading : ℕ → ℕ → ℕ → ℕ → Reading
-reading l t h n = record { length = l; tcount = t; hcount = h; tail = n }
+reading l t h n = record { figures = figures l t h; tail = n }
 
 reading_made : (l t h n k u j m : ℕ) → l ≡ k → t ≡ u → h ≡ j → n ≡ m → reading l t h n ≡ reading k u j m
 reading_made l t h n k u j m e f g d = cc
@@ -62,11 +62,13 @@ pub reading_told :
     (a b : Said Reading) → Legible LegibleReading a → Legible LegibleReading b →
     packed reading_word a ≡ packed reading_word b → a ≡ b
 reading_told (accepted x) (accepted y) p q e =
-    let told = three_told x.length x.tcount (x.hcount + 2 ^ 16 * x.tail) y.length y.tcount (y.hcount + 2 ^ 16 * y.tail)
-    p.length p.tcount q.length q.tcount (omega arith) in
-    let high = low_told x.hcount y.hcount x.tail y.tail p.hcount q.hcount told.1.1 in
+    let f = x.figures in
+    let g = y.figures in
+    let told = three_told f.length f.tcount (f.hcount + 2 ^ 16 * x.tail) g.length g.tcount (g.hcount + 2 ^ 16 * y.tail)
+    p.figures.length p.figures.tcount q.figures.length q.figures.tcount (omega arith) in
+    let high = low_told f.hcount g.hcount x.tail y.tail p.figures.hcount q.figures.hcount told.1.1 in
     ap accepted
-    (reading_made x.length x.tcount x.hcount x.tail y.length y.tcount y.hcount y.tail
+    (reading_made f.length f.tcount f.hcount x.tail g.length g.tcount g.hcount y.tail
     told.0 told.1.0 high.0 high.1)
 reading_told (accepted x) (refused n o) p q e = absurd (omega arith)
 reading_told (refused n o) (accepted y) p q e = absurd (omega arith)

@@ -18,7 +18,7 @@ figures_word x = 2 ^ 8 * x.length + 2 ^ 24 * x.tcount + 2 ^ 40 * x.hcount
 
 -- the form reader's: the same, and the tail number in bits 56 to 63
 abbrev pub reading_word : Reading → ℕ
-reading_word x = 2 ^ 8 * x.length + 2 ^ 24 * x.tcount + 2 ^ 40 * x.hcount + 2 ^ 56 * x.tail
+reading_word x = figures_word x.figures + 2 ^ 56 * x.tail
 
 -- an answer with a matrix: the exponent in bits 8 to 39; the coefficients are lent
 abbrev pub record_word : Matrix → ℕ
@@ -57,9 +57,7 @@ pub record LegibleFigures (x : Figures) : Type 0 where
   pub hcount : x.hcount < 2 ^ 16
 
 pub record LegibleReading (x : Reading) : Type 0 where
-  pub length : x.length < 2 ^ 16
-  pub tcount : x.tcount < 2 ^ 16
-  pub hcount : x.hcount < 2 ^ 16
+  pub figures : LegibleFigures x.figures
   pub tail : x.tail < 2 ^ 8
 
 pub record LegibleRecord (m : Matrix) : Type 0 where

@@ -1,11 +1,19 @@
--- `chorvadhim::chorvadhim_read_form` meets its contract: what the form reader says is legible, and is packed. Assumes nothing.
+-- What the call says is legible, and is packed.
+use Rattle.chorvadhim.proofs.Answered.{may_pack, packed_by_cases}
 use Rattle.chorvadhim.proofs.Legible.{read_form_legible}
 use Rattle.chorvadhim.proofs.chorvadhim_read_form.Goals as goal
 
-pub read_word-requires : goal.read_word-requires
-read_word-requires c = read_form_legible c.read_form.ensures
+pub map_or_else-requires : goal.map_or_else-requires
+map_or_else-requires c =
+    let may = may_pack _ c.read_form.result (read_form_legible c.read_form.ensures) in
+    record { default_callable = may.0; f_callable = may.1 }
 
 pub returns : goal.returns
 returns c =
     let promised = c.read_form.ensures in
-    record { answer = _; promised = promised; legible = read_form_legible promised; says = c.read_word.ensures }
+    record {
+      answer = _;
+      promised = promised;
+      legible = read_form_legible promised;
+      says = packed_by_cases _ c.read_form.result c.map_or_else.ensures;
+    }
