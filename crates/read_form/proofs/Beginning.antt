@@ -3,13 +3,26 @@ use Prim.Native.Nat.{ℕ, zero, suc, ◌≤◌, ◌<◌}
 use native.Mathlib.Nat.{not-suc-le-zero}
 use native.Mathlib.Omega.{arith}
 use mathlib.Core.List.{List, [], ◌∷◌}
-use mathlib.Core.Path.{◌≡◌, refl}
+use mathlib.Core.Bool.{Bool, true, false, true≢false}
+use mathlib.Core.Path.{◌≡◌, refl, sym, ◌∙◌}
+use lib.Dec.{eqb}
+use Rattle.std.specs.List.{starts_with}
+use Rattle.std.proofs.lemmas.Bool.Decides.{Decides-eqb}
+use Rattle.std.proofs.lemmas.Slice.Eq.{slice_eq-Decides}
 use lib.ListN.{length, take}
 use Rattle.matrix.specs.Letter.{H, S, T}
 use Rattle.form.specs.Tail.{head_text}
 use Rattle.form.specs.Form.{Syllable, HT, SHT, syllable_text}
-use Rattle.read_form.specs.Part.{Head, LeadingSyllable}
+use Rattle.read_form.specs.Part.{Front, the_first, the_second, neither, Head, LeadingSyllable}
 use Rattle.read_form.proofs.Taking.{byte_of_front, front_within}
+
+-- the two answers of `starts_with`
+pub does_begin : {r : Bool} (text front : List ℕ) → r ≡ starts_with eqb text front → r ≡ true → take (length front) text ≡ front
+does_begin {r} text front told yes_it_does = sym ((slice_eq-Decides Decides-eqb front (take (length front) text) r told).0 yes_it_does)
+
+pub does_not_begin : {r : Bool} (text front : List ℕ) → r ≡ starts_with eqb text front → r ≡ false → take (length front) text ≡ front → ⊥
+does_not_begin {r} text front told it_does_not same =
+    true≢false (sym ((slice_eq-Decides Decides-eqb front (take (length front) text) r told).1 (sym same)) ∙ it_does_not)
 
 -- texts whose first bytes differ
 H_or_S : (text : List ℕ) (s t : List ℕ) → take (length (H ∷ s)) text ≡ H ∷ s → take (length (S ∷ t)) text ≡ S ∷ t → ⊥
@@ -18,7 +31,7 @@ H_or_S text s t one other =
 
 -- heads
 
-pub head_SH : (text : List ℕ) → take 2 text ≡ S ∷ H ∷ [] → Head text 2
+head_SH : (text : List ℕ) → take 2 text ≡ S ∷ H ∷ [] → Head text 2
 unfolding head_text
 head_SH text begins =
     record {
@@ -28,7 +41,7 @@ head_SH text begins =
       longest = λ k small same. omega arith;
     }
 
-pub head_H : (text : List ℕ) → take 1 text ≡ H ∷ [] → Head text 1
+head_H : (text : List ℕ) → take 1 text ≡ H ∷ [] → Head text 1
 unfolding head_text
 head_H text begins = record { small = omega arith; within = front_within text (H ∷ []) begins; spelled = begins; longest = no_longer }
   where
@@ -38,7 +51,7 @@ head_H text begins = record { small = omega arith; within = front_within text (H
     no_longer (suc (suc zero)) small same = absurd (H_or_S text [] (H ∷ []) begins same)
     no_longer (suc (suc (suc k))) small same = omega arith
 
-pub head_none : (text : List ℕ) → (take 2 text ≡ S ∷ H ∷ [] → ⊥) → (take 1 text ≡ H ∷ [] → ⊥) → Head text 0
+head_none : (text : List ℕ) → (take 2 text ≡ S ∷ H ∷ [] → ⊥) → (take 1 text ≡ H ∷ [] → ⊥) → Head text 0
 unfolding head_text
 head_none text no_SH no_H = record { small = omega arith; within = omega arith; spelled = refl; longest = no_longer }
   where
@@ -48,9 +61,14 @@ head_none text no_SH no_H = record { small = omega arith; within = omega arith; 
     no_longer (suc (suc zero)) small same = absurd (no_SH same)
     no_longer (suc (suc (suc k))) small same = omega arith
 
+pub head_front : {text : List ℕ} {n : ℕ} → Front text (S ∷ H ∷ []) (H ∷ []) n → Head text n
+head_front {text} (the_first begins) = head_SH text begins
+head_front {text} (the_second no_SH begins) = head_H text begins
+head_front {text} (neither no_SH no_H) = head_none text no_SH no_H
+
 -- syllables
 
-pub leading :
+leading :
     (text : List ℕ) (s : Syllable) → take (length (syllable_text s)) text ≡ syllable_text s →
     LeadingSyllable text (length (syllable_text s))
 unfolding syllable_text
@@ -65,15 +83,15 @@ leading text s begins =
     not_empty HT e = omega arith
     not_empty SHT e = omega arith
 
-pub leading_HT : (text : List ℕ) → take 2 text ≡ H ∷ T ∷ [] → LeadingSyllable text 2
+leading_HT : (text : List ℕ) → take 2 text ≡ H ∷ T ∷ [] → LeadingSyllable text 2
 unfolding syllable_text
 leading_HT text = leading text HT
 
-pub leading_SHT : (text : List ℕ) → take 3 text ≡ S ∷ H ∷ T ∷ [] → LeadingSyllable text 3
+leading_SHT : (text : List ℕ) → take 3 text ≡ S ∷ H ∷ T ∷ [] → LeadingSyllable text 3
 unfolding syllable_text
 leading_SHT text = leading text SHT
 
-pub leading_none :
+leading_none :
     (text : List ℕ) → (take 2 text ≡ H ∷ T ∷ [] → ⊥) → (take 3 text ≡ S ∷ H ∷ T ∷ [] → ⊥) → LeadingSyllable text 0
 unfolding syllable_text
 leading_none text no_HT no_SHT =
@@ -82,3 +100,8 @@ leading_none text no_HT no_SHT =
     neither : (s : Syllable) → take (length (syllable_text s)) text ≡ syllable_text s → ⊥
     neither HT = no_HT
     neither SHT = no_SHT
+
+pub leading_front : {text : List ℕ} {n : ℕ} → Front text (H ∷ T ∷ []) (S ∷ H ∷ T ∷ []) n → LeadingSyllable text n
+leading_front {text} (the_first begins) = leading_HT text begins
+leading_front {text} (the_second no_HT begins) = leading_SHT text begins
+leading_front {text} (neither no_HT no_SHT) = leading_none text no_HT no_SHT

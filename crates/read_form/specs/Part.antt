@@ -13,6 +13,15 @@ pub record Run (text : List ℕ) (letter most n : ℕ) : Type 0 where
   pub spelled : L.take n text ≡ L.replicate n letter
   pub stops : n < most → n < L.length text → L.get_or text n 0 ≡ letter → ⊥
 
+-- the length of the first of two fronts that the text begins with, or 0 where it begins with neither
+pub data Front (text first second : List ℕ) : ℕ → Type 0 where
+  the_first : L.take (L.length first) text ≡ first → Front text first second (L.length first)
+  the_second :
+      (L.take (L.length first) text ≡ first → ⊥) → L.take (L.length second) text ≡ second →
+      Front text first second (L.length second)
+  neither :
+      (L.take (L.length first) text ≡ first → ⊥) → (L.take (L.length second) text ≡ second → ⊥) → Front text first second 0
+
 -- the text begins with a tail's head, "(nothing, H or SH)", of h bytes, and with no longer one
 pub record Head (text : List ℕ) (h : ℕ) : Type 0 where
   pub small : h < 3

@@ -2,7 +2,7 @@
 #![tactic(auto)]
 
 ghost use Rattle.answer.specs.Refusal.{said};
-ghost use Rattle.read_form.specs.Part.{Run, Head, LeadingSyllable, Any, NoFront, OnlyTail, Longest};
+ghost use Rattle.read_form.specs.Part.{Run, Front, Head, LeadingSyllable, Any, NoFront, OnlyTail, Longest};
 ghost use Rattle.read_form.specs.Promise.{ReadForm};
 
 use answer::{Figures, Refusal};
@@ -21,32 +21,33 @@ fn run_length(text: &[u8], letter: u8, most: usize) -> usize
     text.iter().take(most).take_while(|b| **b == letter).count()
 }
 
-// The length of a tail's head: nothing, H or SH.
-#[tactic(auto, using(crate::proofs::Beginning::head_SH, crate::proofs::Beginning::head_H, crate::proofs::Beginning::head_none))]
-fn head_length(text: &[u8]) -> usize
-    ensures { Head text.now result }
+// The length of the first of two fronts that a text begins with, or 0.
+fn front_length(text: &[u8], first: &[u8], second: &[u8]) -> usize
+    ensures { Front text.now first.now second.now result }
 {
-    if text.starts_with(b"SH") {
-        2
-    } else if text.starts_with(b"H") {
-        1
+    if text.starts_with(first) {
+        first.len()
+    } else if text.starts_with(second) {
+        second.len()
     } else {
         0
     }
 }
 
+// The length of a tail's head: nothing, H or SH.
+#[tactic(auto, using(crate::proofs::Beginning::head_front))]
+fn head_length(text: &[u8]) -> usize
+    ensures { Head text.now result }
+{
+    front_length(text, b"SH", b"H")
+}
+
 // The length of the syllable that a text begins with, or 0.
-#[tactic(auto, using(crate::proofs::Beginning::leading_HT, crate::proofs::Beginning::leading_SHT, crate::proofs::Beginning::leading_none))]
+#[tactic(auto, using(crate::proofs::Beginning::leading_front))]
 fn syllable_length(text: &[u8]) -> usize
     ensures { LeadingSyllable text.now result }
 {
-    if text.starts_with(b"HT") {
-        2
-    } else if text.starts_with(b"SHT") {
-        3
-    } else {
-        0
-    }
+    front_length(text, b"HT", b"SHT")
 }
 
 // The longest tail that a text begins with.
