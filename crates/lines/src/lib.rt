@@ -25,7 +25,7 @@ pub fn put<const N: usize>(output: &mut ArrayVec<u8, N>, bytes: &[u8])
     requires { array_vec_len output.old + length bytes.now ≤ N }
     ensures { output.new.items ≡ output.old.items ++ bytes.now }
 {
-    let _ = output.try_extend_from_slice(bytes);
+    output.try_extend_from_slice(bytes).unwrap();
 }
 
 // Holds as much of a piece of a line as there is room for.
