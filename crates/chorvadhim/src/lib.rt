@@ -77,7 +77,8 @@ fn put_record(m: Matrix, lent: &mut [i64; 16]) -> u64
     BIT_8 * (m.exponent as u64)
 }
 
-// The word of a call that returns a record, which is left in a lent array; a refusal leaves the array.
+// The word of a call that returns a record, which is left in a lent array; a refusal leaves the array. Tried `map_or_else`: of
+// what a closure left in the lent array no contract of the library speaks.
 fn returned_word(returned: Result<Matrix, Refusal>, lent: &mut [i64; 16]) -> u64
     requires { Legible LegibleRecord (said returned) }
     ensures value { result ≡ packed record_word (said returned) }
@@ -88,6 +89,8 @@ fn returned_word(returned: Result<Matrix, Refusal>, lent: &mut [i64; 16]) -> u64
         Err(refusal) => refusal_word(refusal),
     }
 }
+
+// The C interface: eight calls by their names, each packing what the library's call answers.
 
 pub fn chorvadhim_string_to_form(text: &[u8], buffer: &mut [u8]) -> u64
     ensures { StringToFormWord text.now buffer.old result buffer.new }
