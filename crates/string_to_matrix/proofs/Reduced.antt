@@ -1,6 +1,6 @@
 -- Dividing a record by √2: the elements divided at one exponent less mean the same, and a record that cannot be divided is
 -- least. Assumes nothing.
-use Prim.Native.Nat.{suc, ◌-◌, ◌≤◌, ◌<◌}
+use Prim.Native.Nat.{suc, ◌-◌, ◌<◌}
 use native.Mathlib.Omega.{arith}
 use mathlib.Core.Bool.{Bool, true, false, true≢false}
 use mathlib.Core.Path.{◌≡◌, refl, sym, ◌∙◌}
@@ -11,7 +11,7 @@ use Rattle.ring.specs.Element.{root2, product}
 use Rattle.ring.proofs.Root2.{root2_cancel}
 use Rattle.ring.proofs.Divided.{over_root2, divides, even_pairs, pairs_of_divided, divided_of_pairs}
 use Rattle.matrix.specs.declared.Matrix.{Matrix}
-use Rattle.matrix.specs.Matrix.{matrix, Same, Least}
+use Rattle.matrix.specs.Matrix.{matrix, Least}
 use Rattle.matrix.proofs.Entries.{equal_entries}
 use Rattle.matrix.proofs.Same.{same_trans, same_of_equal}
 use Rattle.matrix.proofs.Unitary.{unitary_same}
@@ -63,6 +63,6 @@ reduces false {m} found needed = by (eqb m.exponent 0) refl
     by true e = least_at_zero m (eqb-true m.exponent 0 e)
     by false e = least_undivided m (λ (v : Divisible m). true≢false (sym (needed (divisible_is_reducible (omega (arith, eqb-false m.exponent 0 e)) v))))
 
--- a record of equal meaning and no higher exponent has the same room
-pub roomy_lower : {m r : Matrix} → Same m r → r.exponent ≤ m.exponent → Roomy m → Roomy r
-roomy_lower same lower roomy = record { unitary = unitary_same same roomy.unitary; low = omega (arith, roomy.low) }
+-- and it has the same room
+pub roomy_lowered : {m r : Matrix} → Roomy m → Lowered m r → Roomy r
+roomy_lowered roomy l = record { unitary = unitary_same l.same roomy.unitary; low = omega (arith, roomy.low, l.lower) }

@@ -20,6 +20,13 @@ use ring::Element;
 // The T's that the form of a record within the exponent limit holds at most.
 const T_LIMIT: usize = 2 * (EXPONENT_LIMIT as usize) + 1;
 
+// A unitary record whose exponent is low enough that its coefficients leave room in 64 bits.
+#[derive(Clone, Copy)]
+struct RoomyRecord {
+    matrix: Matrix,
+    ghost roomy: { Roomy matrix },
+}
+
 // The matrix of the empty string.
 #[tactic(auto, unfolding(matrix::specs::Matrix::identity, ring::specs::Element::nothing, ring::specs::Element::one))]
 fn identity() -> Matrix
@@ -39,12 +46,12 @@ fn identity() -> Matrix
 }
 
 // diag(u, w) times a record.
-fn by_diagonal(u: Element, w: Element, m: Matrix) -> Matrix
+fn by_diagonal(u: Element, w: Element, roomy: RoomyRecord) -> Matrix
     requires small { Small 1 u }
     requires small_2 { Small 1 w }
-    requires roomy { Roomy m }
-    ensures { result ≡ times (matrix 0 u nothing nothing w) m }
+    ensures { result ≡ times (matrix 0 u nothing nothing w) (roomy.matrix) }
 {
+    let m = roomy.matrix;
     Matrix {
         exponent: m.exponent,
         top: Row {
@@ -59,33 +66,31 @@ fn by_diagonal(u: Element, w: Element, m: Matrix) -> Matrix
 }
 
 // A letter of a form, its matrix times a record. H and X are their own inverses: they come on as they are taken off.
-// That the record is roomy is asked here, and no type holds it: an H raises the exponent, and may take the product out of it.
 #[tactic(auto, using(crate::proofs::Gates::letter_products))]
-fn prefixed(letter: u8, m: Matrix) -> Matrix
-    requires form_letter { FormLetter letter }
-    requires roomy { Roomy m }
-    ensures { result ≡ times (gate letter) m }
+fn prefixed(letter: u8, roomy: RoomyRecord) -> Matrix
+    requires { FormLetter letter }
+    ensures { result ≡ times (gate letter) (roomy.matrix) }
 {
     match letter {
-        b'H' => turn::record_without_h(m),
-        b'S' => by_diagonal(Element::ONE, Element::OMEGA2, m),
-        b'T' => by_diagonal(Element::ONE, Element::OMEGA, m),
-        b'W' => by_diagonal(Element::OMEGA, Element::OMEGA, m),
-        _ => turn::record_without_x(m),
+        b'H' => turn::record_without_h(roomy.matrix),
+        b'S' => by_diagonal(Element::ONE, Element::OMEGA2, roomy),
+        b'T' => by_diagonal(Element::ONE, Element::OMEGA, roomy),
+        b'W' => by_diagonal(Element::OMEGA, Element::OMEGA, roomy),
+        _ => turn::record_without_x(roomy.matrix),
     }
 }
 
 // A form's letters multiplied out, from its right end.
-fn product_of(form: &[u8]) -> Matrix
+fn product_of(form: &[u8]) -> RoomyRecord
     requires form { Form form.now }
     requires form_bound { t_count form.now ≤ t_limit }
-    ensures { result ≡ matrix_of form.now }
+    ensures { result.matrix ≡ matrix_of form.now }
 {
-    let mut m = identity();
+    let mut product = identity();
     for letter in form.iter().rev() {
-        m = prefixed(*letter, m);
+        product = prefixed(*letter, RoomyRecord { matrix: product });
     }
-    m
+    RoomyRecord { matrix: product }
 }
 
 // Whether √2 divides both elements of a row.
@@ -103,12 +108,12 @@ fn reducible(m: Matrix) -> bool
 }
 
 // The elements divided by √2, at one exponent less.
-fn lowered(m: Matrix) -> Matrix
-    requires roomy { Roomy m }
-    requires reducible { Reducible m }
-    ensures { Lowered m result }
+fn lowered(roomy: RoomyRecord) -> RoomyRecord
+    requires { Reducible (roomy.matrix) }
+    ensures { Lowered (roomy.matrix) result.matrix }
 {
-    Matrix {
+    let m = roomy.matrix;
+    let matrix = Matrix {
         exponent: m.exponent - 1,
         top: Row {
             left: m.top.left.over_root2(),
@@ -118,19 +123,19 @@ fn lowered(m: Matrix) -> Matrix
             left: m.bottom.left.over_root2(),
             right: m.bottom.right.over_root2(),
         },
-    }
+    };
+    RoomyRecord { matrix }
 }
 
 // The least record.
-fn least(m: Matrix) -> Matrix
-    requires { Roomy m }
-    ensures { LeastRecord m result }
+fn least(product: RoomyRecord) -> Matrix
+    ensures { LeastRecord product.matrix result }
 {
-    let mut r = m;
-    while reducible(r) {
+    let mut r = product;
+    while reducible(r.matrix) {
         r = lowered(r);
     }
-    r
+    r.matrix
 }
 
 // A form with few T's, multiplied out and reduced.

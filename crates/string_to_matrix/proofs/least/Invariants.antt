@@ -1,11 +1,10 @@
--- `string_to_matrix::least` meets its contract. The loop's invariant: the record means the same, and its exponent has not grown, so
--- there is room to divide. The measure is the exponent. Assumes nothing.
-use Prim.Native.Nat.{◌≤◌}
+-- `string_to_matrix::least` meets its contract. The loop's invariant: the record means the same. The measure is
+-- the exponent. Assumes nothing.
 use Rattle.matrix.specs.Matrix.{Same}
 use Rattle.string_to_matrix.proofs.least.Given as goal
 
 abbrev pub invariant-loop-r : goal.invariant-loop-r
-invariant-loop-r l = Same l.initial.r l.r × (l.r.exponent ≤ l.initial.r.exponent)
+invariant-loop-r l = Same l.initial.r.matrix l.r.matrix
 
 abbrev pub decreases-loop-r : goal.decreases-loop-r
-decreases-loop-r l = l.r.exponent
+decreases-loop-r l = l.r.matrix.exponent

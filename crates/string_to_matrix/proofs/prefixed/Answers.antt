@@ -5,4 +5,4 @@ use Rattle.turn.proofs.Room.{roomy_record}
 use Rattle.string_to_matrix.proofs.prefixed.Goals as goal
 
 pub record_without_h-requires : goal.record_without_h-requires
-record_without_h-requires c = let roomy = c.requires.roomy in roomy_record roomy.unitary (le_trans roomy.low (lit≤ tt))
+record_without_h-requires c = let roomy = c.args.roomy.roomy in roomy_record roomy.unitary (le_trans roomy.low (lit≤ tt))

@@ -15,7 +15,7 @@ use Rattle.string_to_matrix.proofs.product_of.Goals as goal
 
 pub loop-letter-init : goal.loop-letter-init
 unfolding matrix_of
-loop-letter-init c = c.identity-m.ensures ∙ ap matrix_of (sym (ending_none c.args.form.now))
+loop-letter-init c = c.identity-product.ensures ∙ ap matrix_of (sym (ending_none c.args.form.now))
 
 -- the letter that a walk from the right end is at
 record Letter (form : List ℕ) (n b : ℕ) : Type 0 where
@@ -33,17 +33,24 @@ at form n b (h, e) =
           ∙ sym (ap (λ (i : ℕ). get_or form i b) place) ∙ sym (get_or-reverse form n b before) ∙ sym e;
     }
 
-pub prefixed-m-requires : goal.prefixed-m-requires
-prefixed-m-requires c =
+pub invariant_of-prefixed : goal.invariant_of-prefixed
+invariant_of-prefixed c =
+    let l = c.loop-letter in
+    record { roomy = subst Roomy (sym l.invariant) (ending_roomy (length l.yielded) c.requires.form c.requires.form_bound) }
+
+pub invariant_of-result : goal.invariant_of-result
+invariant_of-result c =
+    let l = c.loop-letter in
+    record { roomy = subst Roomy (sym l.invariant) (ending_roomy (length l.yielded) c.requires.form c.requires.form_bound) }
+
+pub prefixed-product-requires : goal.prefixed-product-requires
+prefixed-product-requires c =
     let l = c.loop-letter in
     let form = c.args.form.now in
     let road = YieldsList-from_rev_slice {s = c.into_iter-letter-iterator.result} form cc in
     let turn = YieldsList-turn road l.yielded l.letter-iterator l.yielded_by c.next.result c.next.new.self c.in-Some.letter c.in-Some.is c.next.ensures.steps in
     let letter = at form (length l.yielded) c.in-Some.letter.now turn in
-    record {
-      form_letter = subst FormLetter letter.is (form_letter_at c.requires.form _ (omega (arith, letter.before)));
-      roomy = subst Roomy (sym l.invariant) (ending_roomy (length l.yielded) c.requires.form c.requires.form_bound);
-    }
+    subst FormLetter letter.is (form_letter_at c.requires.form _ (omega (arith, letter.before)))
 
 pub loop-letter-preserved : goal.loop-letter-preserved
 loop-letter-preserved c =
@@ -54,7 +61,7 @@ loop-letter-preserved c =
     let turn = YieldsList-turn road l.yielded l.letter-iterator l.yielded_by c.next.result c.next.new.self c.in-Some.letter c.in-Some.is c.next.ensures.steps in
     let letter = at form n c.in-Some.letter.now turn in
     let longer : length (l.yielded ++ (c.in-Some.letter ∷ [])) ≡ n + 1 = length-append l.yielded _ in
-    c.prefixed-m.ensures
+    c.prefixed-product.ensures
     ∙ ap₂ (λ (b : ℕ) (m : Matrix). times (gate b) m) (sym letter.is) l.invariant
     ∙ ending_more form n letter.before
     ∙ ap (λ (k : ℕ). matrix_of (ending k form)) (sym longer)

@@ -7,4 +7,4 @@ use Rattle.string_to_matrix.proofs.Ending.{ending}
 use Rattle.string_to_matrix.proofs.product_of.Given as goal
 
 abbrev pub invariant-loop-letter : goal.invariant-loop-letter
-invariant-loop-letter l = l.m ≡ matrix_of (ending (length l.yielded) l.form)
+invariant-loop-letter l = l.product ≡ matrix_of (ending (length l.yielded) l.form)
