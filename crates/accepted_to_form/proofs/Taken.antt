@@ -1,31 +1,14 @@
--- A letter that is taken, or nothing, as it is written: once or not at all. Assumes nothing.
-use mathlib.Core.Path.{◌≡◌, subst}
+-- A letter that is taken, or nothing: once or not at all. Assumes nothing.
 use mathlib.Core.Bool.{Bool, true, false, ◌&&◌}
-use mathlib.Core.List.{List, ◌++◌}
+use mathlib.Core.List.{◌++◌}
 use Prim.Native.Nat.{ℕ, ◌≤◌}
 use native.Mathlib.Omega.{arith}
-use lib.ListN.{replicate, length, length-append}
-use mir.Val.{bool_byte}
-use Rattle.place.specs.Place.{Placed}
+use lib.ListN.{length, length-append}
 use Rattle.matrix.specs.Letter.{H, S, T, X}
 use Rattle.complete.specs.declared.Rest.{Rest}
 use Rattle.complete.specs.Descent.{if_taken, odd_x, odd_y, odd_z, past_S, past_H, syllable_taken, off_y, off_x, downward, axis_taken}
 
-pub once : (t : Bool) → bool_byte t ≤ 1
-once true = omega arith
-once false = omega arith
-
--- by the test as it was made, and as the definition makes it
-pub placed_taken : (b : ℕ) {t u : Bool} {place next : ℕ} {before after : List ℕ} → t ≡ u → Placed place (replicate (bool_byte t) b) before next after →
-    Placed place (if_taken u b) before next after
-unfolding if_taken
-placed_taken b {t} {u} {place} {next} {before} {after} e p =
-    by u (subst (λ (v : Bool). Placed place (replicate (bool_byte v) b) before next after) e p)
-  where
-    by : (v : Bool) → Placed place (replicate (bool_byte v) b) before next after → Placed place (if_taken v b) before next after
-    by true q = q
-    by false q = q
-
+-- a letter, or nothing, is at most one letter
 pub length_taken : (t : Bool) (b : ℕ) → length (if_taken t b) ≤ 1
 unfolding if_taken
 length_taken true b = omega arith

@@ -1,132 +1,135 @@
 // The form of an accepted record: it is taken down to a letter list, and string to form makes the form.
 #![tactic(auto)]
 
-ghost use Rattle.std.specs.Prelude.{◌≡◌, ◌+◌, ◌≤◌, length, take};
+ghost use Rattle.std.specs.Prelude.{◌≡◌, ◌+◌, ◌≤◌, ◌<◌, ◌++◌, replicate};
+ghost use Rattle.arrayvec.specs.ArrayVec.{array_vec_len};
 ghost use Rattle.answer.specs.Refusal.{said};
 ghost use Rattle.accept_record.specs.Accept.{AcceptedRecord};
-ghost use Rattle.place.specs.Place.{Placed};
-ghost use Rattle.complete.specs.Descent.{syllable_taken, past_syllable, axis_taken, upright, diagonal_text, word_below};
+ghost use Rattle.complete.specs.Descent.{if_taken, syllable_taken, past_syllable, axis_taken, upright, diagonal_text, word_below};
 ghost use Rattle.accepted_to_form.specs.Descends.{Descends, AboveZero};
 ghost use Rattle.accepted_to_form.specs.Letters.{Spelt, most_letters};
 ghost use Rattle.accepted_to_form.specs.Promise.{AcceptedToForm};
 
 use answer::{Figures, Refusal};
+use arrayvec::ArrayVec;
 use complete::Rest;
+use descend::odd_pair;
 use matrix::Matrix;
 
 // The most letters of an accepted record.
 const MOST_LETTERS: usize = 254;
 
-// Where the letters end, and what is left of the record.
-#[derive(Clone, Copy)]
-struct Step {
-    at: usize,
-    rest: Rest,
+type Letters = ArrayVec<u8, MOST_LETTERS>;
+
+// A letter, where it is taken.
+#[tactic(auto, unfolding(complete::specs::Descent::if_taken))]
+fn put_if(letters: &mut Letters, letter: u8, taken: bool)
+    requires { array_vec_len letters.old < most_letters }
+    ensures written { letters.new.items ≡ letters.old.items ++ if_taken taken letter }
+    ensures upper_bound { array_vec_len letters.new ≤ array_vec_len letters.old + 1 }
+{
+    if taken {
+        letters.push(letter);
+    }
+}
+
+// A letter, a number of times.
+fn put_run(letters: &mut Letters, letter: u8, times: usize)
+    requires { array_vec_len letters.old + times ≤ most_letters }
+    ensures written { letters.new.items ≡ letters.old.items ++ replicate times letter }
+    ensures length { array_vec_len letters.new ≡ array_vec_len letters.old + times }
+{
+    for _ in 0..times {
+        letters.push(letter);
+    }
 }
 
 // T, HT, SHT or nothing taken off, and written.
-fn put_syllable(letters: &mut [u8], at: usize, rest: Rest) -> Step
-    requires at_in_bounds { at + 3 ≤ length letters.old }
+#[tactic(auto, unfolding(complete::specs::Descent::syllable_taken, complete::specs::Descent::past_syllable))]
+fn put_syllable(letters: &mut Letters, rest: Rest) -> Rest
+    requires room { array_vec_len letters.old + 3 ≤ most_letters }
     requires above_zero { AboveZero rest }
-    ensures placed { Placed at (syllable_taken rest) letters.old result.at letters.new }
-    ensures rest_value { result.rest ≡ past_syllable rest }
+    ensures written { letters.new.items ≡ letters.old.items ++ syllable_taken rest }
+    ensures upper_bound { array_vec_len letters.new ≤ array_vec_len letters.old + 3 }
+    ensures rest_value { result ≡ past_syllable rest }
 {
-    let v = rest.vector;
-    let with_s = descend::odd_pair(v.x, v.z) as usize;
-    let after_s = place::write_run(letters, at, b'S', with_s);
+    put_if(letters, b'S', odd_pair(rest.vector.x, rest.vector.z));
     let past_s = descend::past_s(rest);
-    let v = past_s.vector;
-    let with_h = descend::odd_pair(v.y, v.z) as usize;
-    let after_h = place::write_run(letters, after_s, b'H', with_h);
+    put_if(letters, b'H', odd_pair(past_s.vector.y, past_s.vector.z));
     let past_h = descend::past_h(past_s);
-    let v = past_h.vector;
-    let with_t = descend::odd_pair(v.x, v.y) as usize;
-    let after_t = place::write_run(letters, after_h, b'T', with_t);
-    Step {
-        at: after_t,
-        rest: descend::past_t(past_h),
-    }
+    put_if(letters, b'T', odd_pair(past_h.vector.x, past_h.vector.y));
+    descend::past_t(past_h)
 }
 
 // The vector turned to +z: S, H and X taken off where it takes them, and written.
-fn put_axis(letters: &mut [u8], at: usize, rest: Rest) -> Step
-    requires at_in_bounds { at + 3 ≤ length letters.old }
+#[tactic(auto, unfolding(complete::specs::Descent::axis_taken, complete::specs::Descent::upright))]
+fn put_axis(letters: &mut Letters, rest: Rest) -> Rest
+    requires room { array_vec_len letters.old + 3 ≤ most_letters }
     requires descends { Descends rest 0 }
-    ensures placed { Placed at (axis_taken rest) letters.old result.at letters.new }
-    ensures rest_value { result.rest ≡ upright rest }
+    ensures written { letters.new.items ≡ letters.old.items ++ axis_taken rest }
+    ensures upper_bound { array_vec_len letters.new ≤ array_vec_len letters.old + 3 }
+    ensures rest_value { result ≡ upright rest }
 {
-    let with_s = ring::odd(rest.vector.y.whole) as usize;
-    let after_s = place::write_run(letters, at, b'S', with_s);
+    put_if(letters, b'S', rest.vector.y.is_odd());
     let off_y = descend::off_y(rest);
-    let with_h = ring::odd(off_y.vector.x.whole) as usize;
-    let after_h = place::write_run(letters, after_s, b'H', with_h);
+    put_if(letters, b'H', off_y.vector.x.is_odd());
     let off_x = descend::off_x(off_y);
-    let with_x = (off_x.vector.z.whole < 0) as usize;
-    let after_x = place::write_run(letters, after_h, b'X', with_x);
-    Step {
-        at: after_x,
-        rest: descend::turned_up(off_x),
-    }
+    put_if(letters, b'X', descend::is_downward(off_x));
+    descend::turned_up(off_x)
 }
 
 // The letters of a diagonal record: T or nothing, S's and W's.
-fn put_diagonal(letters: &mut [u8], at: usize, m: Matrix) -> usize
-    requires { at + 11 ≤ length letters.old }
-    ensures { Placed at (diagonal_text m) letters.old result letters.new }
+#[tactic(auto, using(crate::proofs::Phases::phase_below), unfolding(complete::specs::Descent::diagonal_text, complete::specs::Descent::phases_text))]
+fn put_diagonal(letters: &mut Letters, m: Matrix)
+    requires { array_vec_len letters.old + 11 ≤ most_letters }
+    ensures written { letters.new.items ≡ letters.old.items ++ diagonal_text m }
+    ensures upper_bound { array_vec_len letters.new ≤ array_vec_len letters.old + 11 }
 {
     let first = descend::phase(m.top.left) as usize;
     let second = descend::phase(m.bottom.right) as usize;
     let turn = (second + 8 - first) % 8;
-    let after_t = place::write_run(letters, at, b'T', turn % 2);
-    let after_s = place::write_run(letters, after_t, b'S', turn / 2);
-    place::write_run(letters, after_s, b'W', first)
+    put_run(letters, b'T', turn % 2);
+    put_run(letters, b'S', turn / 2);
+    put_run(letters, b'W', first);
 }
 
 // What is left at exponent 0.
-fn put_end(letters: &mut [u8], at: usize, rest: Rest) -> usize
-    requires at_in_bounds { at + 14 ≤ length letters.old }
+#[tactic(auto, unfolding(complete::specs::Descent::word_below))]
+fn put_end(letters: &mut Letters, rest: Rest)
+    requires room { array_vec_len letters.old + 14 ≤ most_letters }
     requires descends { Descends rest 0 }
-    ensures { Placed at (word_below 0 rest) letters.old result letters.new }
+    ensures written { letters.new.items ≡ letters.old.items ++ word_below 0 rest }
+    ensures upper_bound { array_vec_len letters.new ≤ array_vec_len letters.old + 14 }
 {
-    let step = put_axis(letters, at, rest);
-    let upright = step.rest;
-    put_diagonal(letters, step.at, upright.matrix)
+    let upright = put_axis(letters, rest);
+    put_diagonal(letters, upright.matrix);
 }
 
 // The letter list of an accepted record.
-fn put_letters(letters: &mut [u8], record: Matrix) -> usize
-    requires letters_len { length letters.old ≡ most_letters }
-    requires accepted_record { AcceptedRecord «record» }
-    ensures upper_bound { result ≤ most_letters }
-    ensures spelt { Spelt «record» (take result letters.new) }
+fn letters_of(record: Matrix) -> Letters
+    requires { AcceptedRecord «record» }
+    ensures upper_bound { array_vec_len result ≤ most_letters }
+    ensures spelt { Spelt «record» result.items }
 {
+    let mut letters = ArrayVec::new();
     let vector = descend::vector_of(record);
     let mut rest = Rest {
         matrix: record,
         vector,
     };
-    let mut at = 0;
-    let mut left = record.exponent + record.exponent;
-    while 0 < left {
-        let step = put_syllable(letters, at, rest);
-        at = step.at;
-        let next = step.rest;
-        rest = next;
-        left -= 1;
+    for _ in 0..2 * record.exponent {
+        rest = put_syllable(&mut letters, rest);
     }
-    put_end(letters, at, rest)
-}
-
-fn no_letters() -> [u8; MOST_LETTERS] {
-    [0u8; MOST_LETTERS]
+    put_end(&mut letters, rest);
+    letters
 }
 
 // The form of an accepted record, written into a lent buffer where it has room.
+#[tactic(auto, using(crate::proofs::Route::by_string))]
 pub fn accepted_to_form(record: Matrix, buffer: &mut [u8]) -> Result<Figures, Refusal>
     requires { AcceptedRecord «record» }
     ensures { AcceptedToForm «record» buffer.old (said result) buffer.new }
 {
-    let mut letters = no_letters();
-    let end = put_letters(&mut letters, record);
-    string_to_form::string_to_form(&letters[..end], buffer)
+    let letters = letters_of(record);
+    string_to_form::string_to_form(&letters, buffer)
 }

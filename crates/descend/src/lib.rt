@@ -7,7 +7,7 @@ ghost use Rattle.ring.specs.Element.{size_whole, size_root2};
 ghost use Rattle.ring.specs.Bounds.{Small};
 ghost use Rattle.ring.specs.Real.{number};
 ghost use Rattle.complete.specs.Vector.{vector_of};
-ghost use Rattle.complete.specs.Descent.{without_S, without_H, without_X, without_T, lowered, past_S, past_H, past_T, off_y, off_x, turned_up, by_sign, phase};
+ghost use Rattle.complete.specs.Descent.{without_S, without_H, without_X, without_T, lowered, past_S, past_H, past_T, off_y, off_x, downward, turned_up, by_sign, phase};
 ghost use Rattle.turn.specs.Room.{RoomyRest};
 
 use complete::Rest;
@@ -178,16 +178,19 @@ pub fn off_x(r: Rest) -> Rest
     if r.vector.x.is_odd() { without_h(r) } else { r }
 }
 
-#[tactic(auto, using(crate::proofs::Choice::turned_up_below, crate::proofs::Choice::turned_up_not_below))]
+// Whether the vector points below the plane.
+pub fn is_downward(r: Rest) -> bool
+    ensures { result ≡ downward r }
+{
+    r.vector.z.whole < 0
+}
+
+#[tactic(auto, unfolding(complete::specs::Descent::turned_up))]
 pub fn turned_up(r: Rest) -> Rest
     requires { RoomyRest r }
     ensures { result ≡ turned_up r }
 {
-    if r.vector.z.whole < 0 {
-        without_x(r)
-    } else {
-        r
-    }
+    if is_downward(r) { without_x(r) } else { r }
 }
 
 #[tactic(auto, unfolding(complete::specs::Descent::by_sign))]
