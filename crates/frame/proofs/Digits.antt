@@ -120,21 +120,19 @@ is_its_digit b = by (eqb (digit (digit_value b)) b) (is_digit b) refl refl
 
 -- whether all bytes of a text are digits, as a walk to its end keeps it
 abbrev pub still_digits : Bool → ℕ → Bool
-still_digits all b = all && eqb (digit (digit_value b)) b
+still_digits all b = all && is_digit b
 
 pub digits_by_fold : (text : List ℕ) → fold still_digits true text ≡ true → Digits text
 digits_by_fold [] e = none
-digits_by_fold (b ∷ text) e = by (eqb (digit (digit_value b)) b) refl e (digits_by_fold text)
+digits_by_fold (b ∷ text) e = by (is_digit b) refl e (digits_by_fold text)
   where
-    by :
-        (t : Bool) → eqb (digit (digit_value b)) b ≡ t → fold still_digits t text ≡ true →
-        (fold still_digits true text ≡ true → Digits text) → Digits (b ∷ text)
-    by true same kept rest = more (sym (is_its_digit b) ∙ same) (rest kept)
+    by : (t : Bool) → is_digit b ≡ t → fold still_digits t text ≡ true → (fold still_digits true text ≡ true → Digits text) → Digits (b ∷ text)
+    by true same kept rest = more same (rest kept)
     by false same kept rest = absurd (true≢false (sym kept ∙ fold_stays still_digits false (λ x. refl) text))
 
 pub fold_of_digits : {text : List ℕ} → Digits text → fold still_digits true text ≡ true
 fold_of_digits none = refl
-fold_of_digits (more {a = b} {s = text} e rest) = ap (λ (t : Bool). fold still_digits t text) (is_its_digit b ∙ e) ∙ fold_of_digits rest
+fold_of_digits (more {s = text} e rest) = ap (λ (t : Bool). fold still_digits t text) e ∙ fold_of_digits rest
 
 -- ---- numbers in digits
 pub digits_length : (k n : ℕ) → length (digits k n) ≡ k

@@ -17,14 +17,6 @@ ghost use Rattle.frame.specs.Parts.{digit_value, number_of};
 use answer::{CHECK_WORD_PLACE, FRAME_LENGTH, Refusal};
 use matrix::Matrix;
 
-// 0-9 and a-f.
-#[tactic(auto, unfolding(crate::specs::Digit::is_digit))]
-fn is_digit(b: u8) -> bool
-    ensures { result ≡ is_digit b }
-{
-    matches!(b, b'0'..=b'9' | b'a'..=b'f')
-}
-
 // The number below sixteen that a digit stands for: its lowest four bits, with 9 more for a letter.
 #[tactic(auto, unfolding(crate::specs::Parts::digit_value))]
 fn digit_value(b: u8) -> u8
@@ -43,12 +35,19 @@ fn digit_of(n: u8) -> u8
     if n < 10 { b'0' + n } else { b'a' + (n - 10) }
 }
 
+// 0-9 and a-f: a byte that is the digit for its number.
+#[tactic(auto, using(crate::proofs::Digits::is_its_digit))]
+fn is_digit(b: u8) -> bool
+    ensures { result ≡ is_digit b }
+{
+    digit_of(digit_value(b)) == b
+}
+
 // Whether every byte is a digit. The walk goes to the end, so that a compiler can take many bytes at a time.
 fn are_digits(text: &[u8]) -> bool
     ensures { result ≡ true ↔ Digits text.now }
 {
-    text.iter()
-        .fold(true, |all, b| all & (digit_of(digit_value(*b)) == *b))
+    text.iter().fold(true, |all, b| all & is_digit(*b))
 }
 
 // The first place of a byte that is no digit.
