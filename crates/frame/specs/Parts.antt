@@ -1,4 +1,4 @@
--- Document 01, "Frames": the numbers that digits stand for.
+-- The numbers that the digits of a frame stand for.
 use Rattle.std.specs.Prelude.{ℕ, ◌+◌, ◌*◌, ◌/◌, ◌%◌, List, fold}
 
 -- the number below sixteen that a digit stands for: its lowest four bits, with 9 more for a letter
