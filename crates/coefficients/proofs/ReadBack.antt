@@ -7,12 +7,20 @@ use mathlib.Core.Path.{◌≡◌, refl, sym, ◌∙◌, ap, ap₂}
 use lib.IntN.{ℤ, pos}
 use lib.ListN.{length, get_or, drop, drop_of_length-le}
 use lib.Seq.{drop-cons}
+use Rattle.std.proofs.lemmas.List.{get_or-drop}
+use Rattle.ring.proofs.Bounds.{equal_coefficients}
 use Rattle.matrix.specs.declared.Matrix.{Matrix}
-use Rattle.coefficients.specs.Coefficients.{coefficients, record_of}
+use Rattle.coefficients.specs.Coefficients.{coefficients, element_at, record_of}
 
 pub sixteen : (m : Matrix) → length (coefficients m) ≡ 16
 unfolding coefficients
 sixteen m = refl
+
+-- the element that stands first after some coefficients
+pub element_after : (n : ℕ) (l : List ℤ) → element_at (drop n l) 0 ≡ element_at l n
+element_after n l =
+    let first : n + 0 ≡ n = omega arith in
+    equal_coefficients (get_or-drop n l 0 (pos 0) ∙ ap (λ (i : ℕ). get_or l i (pos 0)) first) (get_or-drop n l 1 (pos 0)) (get_or-drop n l 2 (pos 0)) (get_or-drop n l 3 (pos 0))
 
 pub record_read_back : (m : Matrix) → record_of m.exponent (coefficients m) ≡ m
 unfolding record_of coefficients

@@ -1,7 +1,7 @@
 // A matrix record as its exponent and its sixteen coefficients, and back.
 #![tactic(auto)]
 
-ghost use Rattle.std.specs.Prelude.{◌≤◌, ◌≡◌};
+ghost use Rattle.std.specs.Prelude.{◌≤◌, ◌≡◌, length};
 ghost use Rattle.coefficients.specs.Coefficients.{coefficients, element_at, record_of};
 
 use matrix::{Matrix, Row};
@@ -21,34 +21,33 @@ pub fn coefficients(m: Matrix) -> [i64; 16]
     ]
 }
 
-// The element whose coefficients stand from a place on.
-fn element_at(list: &[i64; 16], place: usize) -> Element
-    requires { place ≤ 12 }
-    ensures { result ≡ element_at list.now place }
+// The element whose coefficients stand first.
+fn first_element(list: &[i64]) -> Element
+    requires { 4 ≤ length list.now }
+    ensures { result ≡ element_at list.now 0 }
 {
     Element {
-        a0: list[place],
-        a1: list[place + 1],
-        a2: list[place + 2],
-        a3: list[place + 3],
+        a0: list[0],
+        a1: list[1],
+        a2: list[2],
+        a3: list[3],
     }
 }
 
 // The record of an exponent and sixteen coefficients.
+#[tactic(auto, using(crate::proofs::ReadBack::element_after), unfolding(crate::specs::Coefficients::record_of))]
 pub fn record_of(exponent: u32, list: &[i64; 16]) -> Matrix
     ensures { result ≡ record_of exponent list.now }
 {
-    let top = Row {
-        left: element_at(list, 0),
-        right: element_at(list, 4),
-    };
-    let bottom = Row {
-        left: element_at(list, 8),
-        right: element_at(list, 12),
-    };
     Matrix {
         exponent,
-        top,
-        bottom,
+        top: Row {
+            left: first_element(list),
+            right: first_element(&list[4..]),
+        },
+        bottom: Row {
+            left: first_element(&list[8..]),
+            right: first_element(&list[12..]),
+        },
     }
 }
