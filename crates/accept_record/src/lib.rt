@@ -22,6 +22,7 @@ fn in_limit(n: i64) -> bool
 }
 
 // The index of the first coefficient beyond its limit.
+// With the search for a bad letter it shares `position`, and nothing else stands in it.
 fn first_wide(list: &[i64]) -> Option<usize>
     ensures { Finds in_limit list.now result }
 {

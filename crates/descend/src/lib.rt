@@ -1,7 +1,7 @@
 // A unitary record taken down in machine arithmetic: the vector of its first column tells each letter that is taken off.
 #![tactic(auto)]
 
-ghost use Rattle.std.specs.Prelude.{◌&&◌, ◌≡◌, ◌^◌, ◌+ℤ◌, ◌-ℤ◌};
+ghost use Rattle.std.specs.Prelude.{false, IsTrue, ◌&&◌, ◌≡◌, ◌^◌, ◌+ℤ◌, ◌-ℤ◌};
 ghost use Rattle.algebra.specs.Parity.{odd};
 ghost use Rattle.ring.specs.Element.{size_whole, size_root2};
 ghost use Rattle.ring.specs.Bounds.{Small};
@@ -74,44 +74,49 @@ pub fn odd_pair(a: Real, b: Real) -> bool
     a.is_odd() && b.is_odd()
 }
 
+// A letter taken off a record, and off its vector.
+fn without<M: FnOnce(Matrix) -> Matrix, V: FnOnce(Vector) -> Vector>(
+    r: Rest,
+    record_without: M,
+    vector_without: V,
+) -> Rest
+    requires record_room { M.pre record_without r.matrix }
+    requires vector_room { V.pre vector_without r.vector }
+    ensures matrix { M.post record_without r.matrix result.matrix }
+    ensures vector { V.post vector_without r.vector result.vector }
+{
+    Rest {
+        matrix: record_without(r.matrix),
+        vector: vector_without(r.vector),
+    }
+}
+
 fn without_s(r: Rest) -> Rest
     requires { RoomyRest r }
     ensures { result ≡ without_S r }
 {
-    Rest {
-        matrix: turn::record_without_s(r.matrix),
-        vector: turn::vector_without_s(r.vector),
-    }
+    without(r, turn::record_without_s, turn::vector_without_s)
 }
 
 fn without_h(r: Rest) -> Rest
     requires { RoomyRest r }
     ensures { result ≡ without_H r }
 {
-    Rest {
-        matrix: turn::record_without_h(r.matrix),
-        vector: turn::vector_without_h(r.vector),
-    }
+    without(r, turn::record_without_h, turn::vector_without_h)
 }
 
 fn without_x(r: Rest) -> Rest
     requires { RoomyRest r }
     ensures { result ≡ without_X r }
 {
-    Rest {
-        matrix: turn::record_without_x(r.matrix),
-        vector: turn::vector_without_x(r.vector),
-    }
+    without(r, turn::record_without_x, turn::vector_without_x)
 }
 
 fn without_t(r: Rest) -> Rest
     requires { RoomyRest r }
     ensures { result ≡ without_T r }
 {
-    Rest {
-        matrix: turn::record_without_t(r.matrix),
-        vector: turn::vector_without_t(r.vector),
-    }
+    without(r, turn::record_without_t, turn::vector_without_t)
 }
 
 fn lowered(r: Rest) -> Rest
@@ -123,18 +128,22 @@ fn lowered(r: Rest) -> Rest
     }
 }
 
-// Each step is one `if`: a function that takes its test and what it takes off would hold no less, `past(test, r, without_s)`.
+// A letter taken off, where a test tells it.
+fn past<F: FnOnce(Rest) -> Rest>(taken: bool, r: Rest, without: F) -> Rest
+    requires { F.pre without r }
+    ensures taken { IsTrue taken → F.post without r result }
+    ensures left { taken ≡ false → result ≡ r }
+{
+    if taken { without(r) } else { r }
+}
+
 // Above exponent 0: S taken off where x and z are odd, then H where y and z are, then T where x and y are.
 #[tactic(auto, unfolding(complete::specs::Descent::past_S))]
 pub fn past_s(r: Rest) -> Rest
     requires { RoomyRest r }
     ensures { result ≡ past_S r }
 {
-    if odd_pair(r.vector.x, r.vector.z) {
-        without_s(r)
-    } else {
-        r
-    }
+    past(odd_pair(r.vector.x, r.vector.z), r, without_s)
 }
 
 #[tactic(auto, unfolding(complete::specs::Descent::past_H))]
@@ -142,11 +151,7 @@ pub fn past_h(r: Rest) -> Rest
     requires { RoomyRest r }
     ensures { result ≡ past_H r }
 {
-    if odd_pair(r.vector.y, r.vector.z) {
-        without_h(r)
-    } else {
-        r
-    }
+    past(odd_pair(r.vector.y, r.vector.z), r, without_h)
 }
 
 #[tactic(auto, unfolding(complete::specs::Descent::past_T))]
@@ -167,7 +172,7 @@ pub fn off_y(r: Rest) -> Rest
     requires { RoomyRest r }
     ensures { result ≡ off_y r }
 {
-    if r.vector.y.is_odd() { without_s(r) } else { r }
+    past(r.vector.y.is_odd(), r, without_s)
 }
 
 #[tactic(auto, unfolding(complete::specs::Descent::off_x))]
@@ -175,7 +180,7 @@ pub fn off_x(r: Rest) -> Rest
     requires { RoomyRest r }
     ensures { result ≡ off_x r }
 {
-    if r.vector.x.is_odd() { without_h(r) } else { r }
+    past(r.vector.x.is_odd(), r, without_h)
 }
 
 // Whether the vector points below the plane.
@@ -190,7 +195,7 @@ pub fn turned_up(r: Rest) -> Rest
     requires { RoomyRest r }
     ensures { result ≡ turned_up r }
 {
-    if is_downward(r) { without_x(r) } else { r }
+    past(is_downward(r), r, without_x)
 }
 
 #[tactic(auto, unfolding(complete::specs::Descent::by_sign))]
