@@ -3,8 +3,8 @@
 
 ghost use Rattle.std.specs.Prelude.{◌+◌, ◌≤◌, length};
 ghost use Rattle.arrayvec.specs.ArrayVec.{array_vec_len};
-ghost use Rattle.report.specs.Report.{line_room};
-ghost use Rattle.frames.specs.Frames.{Answered};
+ghost use Rattle.report.specs.Report.{line_room, Answered};
+ghost use Rattle.frame_to_form.specs.Promise.{FrameToForm};
 
 use answer::{FORM_LIMIT, FRAME_LENGTH};
 use lines::{BLOCK, Lines, Output};
@@ -16,7 +16,7 @@ const LINE: usize = FRAME_LENGTH + 1;
 // The line of the answer to a frame. Twin of `letters::answer`: one function for both could name neither call's promise.
 fn answer(line: &[u8], form: &mut [u8], output: &mut Output)
     requires { array_vec_len output.old + line_room + length form.old ≤ BLOCK }
-    ensures { Answered line.now form.old output.old.items output.new.items }
+    ensures { Answered FrameToForm line.now form.old output.old.items output.new.items }
 {
     let written = frame_to_form::frame_to_form(line, form);
     report::put_answer(output, written, form);

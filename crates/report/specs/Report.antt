@@ -1,6 +1,6 @@
 -- Document 01, "The programs": "one line for each: `ok`, T-count, H-count, form, or `no`, refusal, place, with one space
 -- between. An empty form leaves the last space."
-use Rattle.std.specs.Prelude.{ℕ, List, [], ◌∷◌, ◌++◌, take}
+use Rattle.std.specs.Prelude.{ℕ, List, [], ◌∷◌, ◌++◌, ◌≡◌, take}
 use Rattle.answer.specs.declared.Figures.{Figures}
 use Rattle.answer.specs.Refusal.{Said, accepted, refused}
 use Rattle.lines.specs.Line.{line_end}
@@ -36,6 +36,14 @@ no_line number place = head no number place ++ (line_end ∷ [])
 unfoldable pub answer_line : Said Figures → List ℕ → List ℕ
 answer_line (accepted figures) buffer = ok_line figures.tcount figures.hcount (take figures.length buffer)
 answer_line (refused number place) buffer = no_line number place
+
+-- The line added to the output for a text: that of the answer which a call gives to the text, with the form in the buffer that
+-- it leaves. `Promise` is the call's promise.
+pub record Answered (Promise : (text buffer : List ℕ) → Said Figures → List ℕ → Type 0) (text buffer before after : List ℕ) : Type 0 where
+  pub answer : Said Figures
+  pub left : List ℕ
+  pub promised : Promise text buffer answer left
+  pub line : after ≡ before ++ answer_line answer left
 
 -- The longest number of a machine has twenty digits: room for a number, for a field, and for a line with an empty form.
 abbrev pub number_room : ℕ
