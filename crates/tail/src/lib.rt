@@ -1,10 +1,12 @@
-// Products of tails: the table of 1,152, for the six letters other than T, and the rule for T.
+// Tails, and their products: the table of 1,152, for the six letters other than T, and the rule for T.
 #![tactic(auto)]
 
-ghost use Rattle.std.specs.Prelude.{◌<◌, true, ◌≡◌};
+ghost use Rattle.std.specs.Prelude.{◌+◌, ◌*◌, ◌<◌, true, ◌≡◌, length};
 ghost use Rattle.matrix.specs.Letter.{T, is_letter};
-ghost use Rattle.form.specs.Tail.{tails, tail_h};
+ghost use Rattle.form.specs.Tail.{tails, tail_h, tail_b, tail_c, tail_a};
 ghost use Rattle.tail.specs.Product.{Column, Product, ProductTable, PastT, BetweenT};
+
+use std::marker::Model;
 
 // Entry 6·n + l: the tail n times the letter l of H W X Y Z S.
 const PRODUCTS: [u8; 1152] = [
@@ -66,11 +68,73 @@ const PRODUCTS: [u8; 1152] = [
     175, 167,
 ];
 
-// The table. A caller binds it once and lends it: a constant named in a step is copied at each use.
-pub fn products() -> [u8; 1152]
-    ensures { ProductTable result }
-{
-    PRODUCTS
+// One of the 192 tails, by its number: 64·h + 32·b + 8·c + a.
+#[derive(Clone, Copy)]
+pub struct Tail {
+    pub number: u8,
+    pub ghost in_tails: { number < tails },
+}
+
+impl Tail {
+    // What begins it: 0 for nothing, 1 for H, 2 for SH.
+    pub fn head(self) -> u8
+        ensures { result ≡ tail_h self.number }
+    {
+        self.number / 64
+    }
+
+    // How many X's follow the head.
+    pub fn xs(self) -> u8
+        ensures { result ≡ tail_b self.number }
+    {
+        self.number / 32 % 2
+    }
+
+    // How many S's follow the X's.
+    pub fn ss(self) -> u8
+        ensures { result ≡ tail_c self.number }
+    {
+        self.number / 8 % 4
+    }
+
+    // How many W's end it.
+    pub fn ws(self) -> u8
+        ensures { result ≡ tail_a self.number }
+    {
+        self.number % 8
+    }
+
+    // This tail times T, right of T: with b = 1, c grows by 1 and a falls by 1.
+    pub fn past_t(self) -> Tail
+        ensures { PastT self.number result.number }
+    {
+        let b = self.xs();
+        Tail {
+            number: b * 32 + (self.number / 8 + b) % 4 * 8 + (self.number + 7 * b) % 8,
+        }
+    }
+
+    // T, this tail of X, S and W, and T: c grows by 1, or with b = 1 a grows by 1.
+    pub fn between_t(self) -> Tail
+        requires { tail_h self.number ≡ 0 }
+        ensures { BetweenT self.number result.number }
+    {
+        let b = self.xs();
+        Tail {
+            number: b * 32 + (self.number / 8 + (1 - b)) % 4 * 8 + (self.number + b) % 8,
+        }
+    }
+
+    // This tail of X, S and W behind a head.
+    pub fn behind(self, head: u8) -> Tail
+        requires head_below_three { head < 3 }
+        requires headless { tail_h self.number ≡ 0 }
+        ensures { result.number ≡ 64 * head + self.number }
+    {
+        Tail {
+            number: 64 * head + self.number,
+        }
+    }
 }
 
 // The column of a letter other than T, without a branch: H leaves 72, S 83, and W, X, Y and Z leave 1 to 4.
@@ -81,31 +145,38 @@ fn column(letter: u8) -> u8
     letter % 86 % 6
 }
 
-// A tail times a letter other than T.
-pub fn product(products: &[u8; 1152], tail: u8, letter: u8) -> u8
-    requires product_table { ProductTable products.now }
-    requires tail_lt_tails { tail < tails }
-    requires letter_value { (is_letter letter ≡ true) × (letter ≡ T → ⊥) }
-    ensures { Product tail letter result }
-{
-    let place = 6 * (tail as usize) + (column(letter) as usize);
-    products[place]
+// The table, which a caller binds once and lends: a constant named in a step is copied at each use.
+#[derive(Drop)]
+pub struct Products {
+    entries: [u8; 1152],
 }
 
-// A tail times T, right of T: with b = 1, c grows by 1 and a falls by 1.
-pub fn past_t(tail: u8) -> u8
-    requires { tail < tails }
-    ensures { PastT tail result }
-{
-    let b = tail / 32 % 2;
-    b * 32 + (tail / 8 + b) % 4 * 8 + (tail + 7 * b) % 8
+impl Model for Products {
+    ghost use Rattle.std.specs.Prelude.{ℕ, List};
+    ghost use Rattle.tail.specs.Product.{ProductTable};
+
+    ghost Value = { List ℕ };
+
+    ghost view = { λ p. p.entries };
+
+    ghost invariant = { λ p. ProductTable p.entries };
 }
 
-// T, a tail of X, S and W, and T: c grows by 1, or with b = 1 a grows by 1.
-pub fn between_t(tail: u8) -> u8
-    requires { tail_h tail ≡ 0 }
-    ensures { BetweenT tail result }
-{
-    let b = tail / 32 % 2;
-    b * 32 + (tail / 8 + (1 - b)) % 4 * 8 + (tail + b) % 8
+impl Products {
+    pub fn new() -> Self
+        ensures { ProductTable result }
+    {
+        Products { entries: PRODUCTS }
+    }
+
+    // A tail times a letter other than T.
+    pub fn product(&self, tail: Tail, letter: u8) -> Tail
+        requires { (is_letter letter ≡ true) × (letter ≡ T → ⊥) }
+        ensures { Product tail.number letter result.number }
+    {
+        let place = 6 * (tail.number as usize) + (column(letter) as usize);
+        Tail {
+            number: self.entries[place],
+        }
+    }
 }
