@@ -17,9 +17,9 @@ use Rattle.form.proofs.Count.{t_count_within, form_is_short}
 use Rattle.tail.proofs.Columns.{column_found}
 use Rattle.tail.proofs.Closure.{product_is_tail}
 use Rattle.tail.proofs.Passing.{passed, joined, passed_T, joined_T}
-use Rattle.stack.specs.State.{Codes, no_codes, front, HT_above, SHT_above, codes_text}
+use Rattle.extend_form.specs.Spelling.{Codes, no_codes, front, HT_above, SHT_above, codes_text}
 use Rattle.extend_form.specs.Extend.{Extends}
-use Rattle.stack.proofs.Spelling.{codes_form}
+use Rattle.extend_form.proofs.Spelling.{codes_form}
 use Rattle.extend_form.proofs.Step.{tail_multiplied, code_pushed, code_popped, extends_none, extends_more}
 
 -- codes and a tail that extend others by a letter

@@ -12,10 +12,10 @@ use Rattle.form.specs.Tail.{tail_h, head_text, tail_text}
 use Rattle.form.specs.Count.{t_count}
 use Rattle.form.proofs.Count.{t_count_append}
 use Rattle.tail.specs.Product.{Product, PastT, BetweenT}
-use Rattle.stack.specs.State.{codes_text}
+use Rattle.extend_form.specs.Spelling.{codes_text}
 use Rattle.extend_form.specs.Extend.{Extends}
 use Rattle.extend_form.proofs.Append.{same_after, same_before}
-use Rattle.stack.proofs.Spelling.{t_count_spelled, headed_tail}
+use Rattle.extend_form.proofs.Spelling.{t_count_spelled, headed_tail}
 
 -- texts of equal meaning, each told by another spelling
 respelled : {s s' t t' : List ℕ} → s ≡ s' → t ≡ t' → Same (matrix_of s) (matrix_of t) → Same (matrix_of s') (matrix_of t')

@@ -11,7 +11,7 @@ use Rattle.form.specs.Tail.{tails, tail_h, tail_b, tail_c, tail_a, head_text, ta
 use Rattle.form.specs.Form.{Syllable, HT, SHT, Parts, Form, syllable_text, syllables_text, front_text, form_text}
 use Rattle.form.specs.Count.{t_count, h_count}
 use Rattle.form.proofs.Count.{t_count_append, t_count_head, t_count_tail, syllables_are_counted}
-use Rattle.stack.specs.State.{Codes, no_codes, front, HT_above, SHT_above, codes_text}
+use Rattle.extend_form.specs.Spelling.{Codes, no_codes, front, HT_above, SHT_above, codes_text}
 
 -- the number of the syllables among codes
 unfoldable pub syllable_count : List ℕ → ℕ

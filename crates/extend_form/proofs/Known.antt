@@ -9,8 +9,8 @@ use Rattle.matrix.specs.Letter.{T}
 use Rattle.form.specs.Tail.{head_text}
 use Rattle.form.specs.Count.{t_count}
 use Rattle.form.proofs.Count.{t_count_append, t_count_head}
-use Rattle.stack.specs.State.{Codes, codes_text}
-use Rattle.stack.proofs.Used.{last_code}
+use Rattle.extend_form.specs.Spelling.{Codes, codes_text}
+use Rattle.extend_form.proofs.Codes.{last_code}
 
 -- a T that stands in a text
 some_T : (s t : List ℕ) → 0 < t_count (s ++ T ∷ t)

@@ -1,3 +1,0 @@
-pub mod Spelling
-pub mod Used
-pub mod Known
