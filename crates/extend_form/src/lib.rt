@@ -41,6 +41,14 @@ impl<const N: usize> Spelled<N> {
         }
     }
 
+    // The empty form again.
+    pub fn clear(&mut self)
+        ensures { Fresh self.new }
+    {
+        self.codes.clear();
+        self.tail = Tail { number: 0 };
+    }
+
     // T, pushed as a code with the tail's head.
     fn push_t(&mut self)
         requires room { length self.old.codes < N }

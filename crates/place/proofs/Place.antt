@@ -1,12 +1,12 @@
 -- Texts written one after the other: a text and then another at the place after it are both in a row, and the buffer keeps
--- its length. A copy over a part of the buffer writes a text. Assumes nothing.
+-- its length. A copy or a fill over a part of the buffer writes a text. Assumes nothing.
 use Prim.Native.Nat.{ℕ, ◌+◌, ◌-◌, ◌≤◌, ◌<◌}
-use native.Mathlib.Nat.{add-zero, add_assoc}
+use native.Mathlib.Nat.{add-zero}
 use native.Mathlib.Numerals.{add-one}
 use native.Mathlib.Omega.{arith}
 use mathlib.Core.List.{List, [], ◌∷◌, ◌++◌, append_assoc}
-use mathlib.Core.Path.{◌≡◌, refl, sym, ap, ap₂, ◌∙◌}
-use lib.ListN.{length, take, drop, set, length-append, length-take, length-drop, take-append-drop, replicate, replicate-append-replicate}
+use mathlib.Core.Path.{◌≡◌, refl, sym, ap, ap₂, subst, ◌∙◌}
+use lib.ListN.{length, take, drop, set, length-append, length-take, length-drop, take-append-drop, replicate, length-replicate}
 use lib.Seq.{length-take-le, take_at, drop-append-add, drop-drop, set_split}
 use Rattle.place.specs.Place.{put_at, Placed}
 
@@ -91,10 +91,11 @@ placed_by_copy place f before copied e =
     let size : place + length f - place ≡ length f = omega arith in
     rw (e, size, drop-drop)
 
--- one letter more of a run
-pub placed_run_more :
-    (place i letter : ℕ) (before after : List ℕ) → place + i < length before → Placed place (replicate i letter) before (place + i) after →
-    Placed place (replicate (i + 1) letter) before (place + (i + 1)) (set after (place + i) letter)
-placed_run_more place i letter before after h p =
-    rw (← replicate-append-replicate i 1 letter, ← add_assoc place i 1)
-    (placed_more p (placed_one (place + i) after letter (omega (arith, placed_length p))))
+-- a letter filled over as much of the buffer
+pub placed_by_fill :
+    (place times letter : ℕ) (before filled : List ℕ) → filled ≡ replicate times letter →
+    take place before ++ (filled ++ drop (place + times - place) (drop place before)) ≡ put_at place (replicate times letter) before
+placed_by_fill place times letter before filled e =
+    subst
+    (λ (n : ℕ). take place before ++ (filled ++ drop (place + n - place) (drop place before)) ≡ put_at place (replicate times letter) before)
+    (length-replicate times letter) (placed_by_copy place (replicate times letter) before filled e)

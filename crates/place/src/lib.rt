@@ -1,8 +1,46 @@
-// A text written into a lent buffer at a place: the place after it is answered, and all other bytes stay.
+// A lent buffer written from its start on, like a page: what is written follows what was, and all bytes after it stay.
 #![tactic(auto)]
 
-ghost use Rattle.std.specs.Prelude.{◌+◌, ◌≤◌, length, replicate};
+ghost use Rattle.std.specs.Prelude.{◌≡◌, ◌+◌, ◌≤◌, ◌<◌, [], ◌∷◌, length, replicate};
 ghost use Rattle.place.specs.Place.{Placed};
+ghost use Rattle.place.specs.Page.{HasRoom, Wrote};
+
+// The buffer, and the place up to which it is written.
+#[derive(Drop)]
+pub struct Page<'a> {
+    buffer: &'a mut [u8],
+    place: usize,
+}
+
+impl<'a> Page<'a> {
+    // Nothing written yet.
+    pub fn new(buffer: &'a mut [u8]) -> Page<'a>
+        ensures same_buffer { result.buffer.ghost_name ≡ buffer.entry.ghost_name }
+        ensures now { result.buffer.now ≡ buffer.old }
+        ensures place { result.place ≡ 0 }
+    {
+        Page { buffer, place: 0 }
+    }
+
+    // One letter.
+    pub fn put(&mut self, letter: u8)
+        requires { HasRoom self.old 1 }
+        ensures { Wrote self.old (letter ∷ []) self.new }
+    {
+        self.buffer[self.place] = letter;
+        self.place += 1;
+    }
+
+    // A letter, a number of times.
+    pub fn put_run(&mut self, letter: u8, times: usize)
+        requires { HasRoom self.old times }
+        ensures { Wrote self.old (replicate times letter) self.new }
+    {
+        let next = self.place + times;
+        self.buffer[self.place..next].fill(letter);
+        self.place = next;
+    }
+}
 
 // Bytes, one after the other.
 pub fn write_text(buffer: &mut [u8], place: usize, text: &[u8]) -> usize
@@ -19,10 +57,7 @@ pub fn write_run(buffer: &mut [u8], place: usize, letter: u8, times: usize) -> u
     requires { place + times ≤ length buffer.old }
     ensures { Placed place (replicate times letter) buffer.old result buffer.new }
 {
-    let mut i = 0;
-    while i < times {
-        buffer[place + i] = letter;
-        i += 1;
-    }
-    place + times
+    let next = place + times;
+    buffer[place..next].fill(letter);
+    next
 }

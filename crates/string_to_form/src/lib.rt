@@ -4,14 +4,16 @@
 ghost use Rattle.answer.specs.Refusal.{said};
 ghost use Rattle.string_to_form.specs.Promise.{StringToForm};
 
-use answer::{Figures, Refusal};
+use answer::{Figures, Refusal, STRING_LIMIT};
+use extend_form::Spelled;
+use tail::Products;
 
-// The form is normalised on the stack first, so a short buffer is known before the first write.
+// The form is normalised first, so a short buffer is known before the first write.
 pub fn string_to_form(text: &[u8], buffer: &mut [u8]) -> Result<Figures, Refusal>
     ensures { StringToForm text.now buffer.old (said result) buffer.new }
 {
-    let products = tail::products();
-    let mut stack = normalise::empty_stack();
-    let state = normalise::normalise(&products, &mut stack, text)?;
-    write_form::write_form(&stack, state, buffer)
+    let products = Products::new();
+    let mut form = Spelled::<STRING_LIMIT>::new();
+    normalise::normalise(&products, text, &mut form)?;
+    write_form::write_form(&form, buffer)
 }

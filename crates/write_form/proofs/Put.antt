@@ -1,51 +1,54 @@
--- The form that a stack and a state spell, put into a buffer or refused for want of room: its length and its counts are
--- those of the text. Assumes nothing.
+-- The form that codes and a tail spell, put into a buffer or refused for want of room: its length and its counts are those of the
+-- text. Assumes nothing.
 use Prim.Native.Nat.{ℕ, ◌+◌, ◌≤◌, ◌<◌}
 use native.Mathlib.Omega.{arith}
-use mathlib.Core.List.{List}
-use mathlib.Core.Path.{◌≡◌, sym, subst₂}
+use mathlib.Core.List.{List, ◌++◌, reverse}
+use mathlib.Core.Path.{◌≡◌, sym, ap, subst, subst₂, ◌∙◌}
 use lib.ListN.{length, length-append}
+use Rattle.std.proofs.lemmas.List.{length-reverse}
 use Rattle.form.specs.Tail.{tail_text}
-use Rattle.form.specs.Count.{h_count}
+use Rattle.form.specs.Count.{t_count, h_count}
 use Rattle.answer.specs.declared.Refusal.TheVariants.{NoRoom}
 use Rattle.answer.specs.declared.Figures.{Figures}
 use Rattle.answer.specs.Refusal.{accepted, refusal}
-use Rattle.answer.specs.Written.{PutForm, no_room, room, figures_of, put}
-use Rattle.stack.specs.declared.State.{State}
-use Rattle.stack.specs.State.{codes_text, used, state_text}
-use Rattle.stack.proofs.Used.{t_count_state}
+use Rattle.answer.specs.Written.{PutForm, no_room, room, figures_of}
+use Rattle.extend_form.specs.Spelling.{Spelling, codes_text, spelled_text}
+use Rattle.extend_form.proofs.Codes.{t_count_kept}
 use Rattle.place.specs.Place.{Placed}
-use Rattle.place.proofs.Place.{placed_more}
+use Rattle.place.specs.declared.Page.{Page}
+use Rattle.place.specs.Page.{Wrote}
+use Rattle.place.proofs.Written.{wrote_more}
 use Rattle.answer.proofs.Put.{placed_at_start}
 
--- the length of the text is that of its codes and its tail
-pub state_length :
-    (stack : List ℕ) (state : State) {codes tail : ℕ} →
-    codes ≡ length (codes_text (used stack state.count)) → tail ≡ length (tail_text state.tail) →
-    codes + tail ≡ length (state_text stack state)
-unfolding state_text
-state_length stack state e d = omega (arith, length-append (codes_text (used stack state.count)) (tail_text state.tail))
+module _ (s : Spelling) (codes : List ℕ) (n : ℕ) (view : record { codes = reverse codes; tail = n } ≡ s) where
+  seen_text : codes_text (reverse codes) ++ tail_text n ≡ spelled_text s
+  unfolding spelled_text
+  seen_text = ap spelled_text view
 
-module _ (stack : List ℕ) (state : State) (before : List ℕ) where
-  pub form_refused : {n : ℕ} → n ≡ length (state_text stack state) → length before < n →
-      PutForm (state_text stack state) before (refusal (NoRoom n)) before
-  form_refused e short = rw e (no_room (rw e at short))
+  -- the length of the text is that of its codes and its tail
+  pub seen_length : {a b : ℕ} → a ≡ length (codes_text (reverse codes)) → b ≡ length (tail_text n) → a + b ≡ length (spelled_text s)
+  seen_length e d = omega (arith, length-append (codes_text (reverse codes)) (tail_text n), ap length seen_text)
 
-  figures : {n h : ℕ} → n ≡ length (state_text stack state) → h ≡ h_count (state_text stack state) →
-      record { length = n; tcount = state.count; hcount = h } ≡ figures_of (state_text stack state)
-  unfolding figures_of
-  figures e d = λ i. record { length = e i; tcount = sym (t_count_state stack state) i; hcount = d i }
+  seen_t_count : t_count (spelled_text s) ≡ length codes
+  seen_t_count = t_count_kept s ∙ ap (λ (t : Spelling). length t.codes) (sym view) ∙ length-reverse codes
 
-  written : {place next : ℕ} {between after : List ℕ} →
-      Placed 0 (codes_text (used stack state.count)) before place between → Placed place (tail_text state.tail) between next after →
-      after ≡ put (state_text stack state) before
-  unfolding state_text
-  written codes tail = placed_at_start (placed_more codes tail)
+  module _ (before : List ℕ) where
+    pub form_refused : {l : ℕ} → l ≡ length (spelled_text s) → length before < l → PutForm (spelled_text s) before (refusal (NoRoom l)) before
+    form_refused e short = rw e (no_room (rw e at short))
 
-  pub form_put : {n h place next : ℕ} {between after : List ℕ} →
-      n ≡ length (state_text stack state) → h ≡ h_count (state_text stack state) → n ≤ length before →
-      Placed 0 (codes_text (used stack state.count)) before place between → Placed place (tail_text state.tail) between next after →
-      PutForm (state_text stack state) before (accepted (record { length = n; tcount = state.count; hcount = h })) after
-  form_put e d fits codes tail =
-      subst₂ (λ (x : Figures) (l : List ℕ). PutForm (state_text stack state) before (accepted x) l)
-      (sym (figures e d)) (sym (written codes tail)) (room (rw e at fits))
+    figures : {l h : ℕ} → l ≡ length (spelled_text s) → h ≡ h_count (spelled_text s) →
+        record { length = l; tcount = length codes; hcount = h } ≡ figures_of (spelled_text s)
+    unfolding figures_of
+    figures e d = λ i. record { length = e i; tcount = sym seen_t_count i; hcount = d i }
+
+    pub form_put : {page page' page'' : Page} {l h : ℕ} {after : List ℕ} → page.place ≡ 0 → page.buffer.now ≡ before →
+        Wrote page (codes_text (reverse codes)) page' → Wrote page' (tail_text n) page'' → after ≡ page''.buffer.now →
+        l ≡ length (spelled_text s) → h ≡ h_count (spelled_text s) → l ≤ length before →
+        PutForm (spelled_text s) before (accepted (record { length = l; tcount = length codes; hcount = h })) after
+    form_put {page} {page'' = page''} start same first second last e d fits =
+        let both : Placed 0 (spelled_text s) before page''.place page''.buffer.now =
+        subst (λ (t : List ℕ). Placed 0 t before page''.place page''.buffer.now) seen_text
+        (subst₂ (λ (k : ℕ) (b : List ℕ). Placed k (codes_text (reverse codes) ++ tail_text n) b page''.place page''.buffer.now)
+        start same (wrote_more first second).placed) in
+        subst₂ (λ (x : Figures) (l : List ℕ). PutForm (spelled_text s) before (accepted x) l)
+        (sym (figures e d)) (sym (last ∙ placed_at_start both)) (room (rw e at fits))

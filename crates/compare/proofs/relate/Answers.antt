@@ -1,22 +1,29 @@
--- `compare::relate` meets its contract: where counts, codes or the tails before their W's differ the states agree for no phase;
--- else the tails differ by j W's. Assumes nothing.
-use native.Mathlib.Omega.{arith}
+-- `compare::relate` meets its contract: where the codes or the tails before their W's differ the forms agree for no phase; else the
+-- tails differ by j W's. Assumes nothing.
 use borrow.Author.Rules.{rules}
-use mathlib.Core.Bool.{true≢false}
-use mathlib.Core.Path.{sym, ap, ◌∙◌}
-use Rattle.stack.specs.State.{used}
-use Rattle.compare.proofs.States.{agree_count, unlike_states}
+use native.Mathlib.Omega.{arith}
+use mathlib.Core.Path.{◌≡◌}
+use Rattle.compare.proofs.States.{equal_by_tests, apart_by_tests, unlike_by_codes, unlike_by_tails}
 use Rattle.compare.proofs.relate.Goals as goal
 
-pub returns-then-a-b : goal.returns-then-a-b
-returns-then-a-b c = unlike_states _ _ _ _ (search rules) (search rules) (λ j agree. c.if-a-b.true (agree_count _ _ _ _ j agree))
+pub returns-then-ne : goal.returns-then-ne
+returns-then-ne g c =
+    unlike_by_codes _ _ c.first.inside.codes.items c.second.inside.codes.items _ _ c.first.view_is c.second.view_is c.first.invariant
+    c.first.inside.tail.in_tails c.second.invariant c.second.inside.tail.in_tails (λ e. search rules)
 
-pub returns-then-not-same_codes : goal.returns-then-not-same_codes
-returns-then-not-same_codes c =
-    let told = c.same_codes.ensures in
-    let counts = c.if-a-b.false in
-    unlike_states _ _ _ _ (search rules) (search rules)
-    (λ j agree. true≢false (sym (told.1 (agree.codes ∙ ap (used _) (sym counts))) ∙ c.if-not-same_codes.true))
+pub returns-then-first-second : goal.returns-then-first-second
+returns-then-first-second g c =
+    unlike_by_tails _ _ c.first.inside.codes.items c.second.inside.codes.items _ _ c.first.view_is c.second.view_is c.first.invariant
+    c.first.inside.tail.in_tails c.second.invariant c.second.inside.tail.in_tails c.if-first-second.true
 
-pub returns-then-a-b-2 : goal.returns-then-a-b-2
-returns-then-a-b-2 c = unlike_states _ _ _ _ (search rules) (search rules) (λ j agree. c.if-a-b-2.true (omega (arith, agree.tail)))
+pub returns-in-0 : goal.returns-in-0
+returns-in-0 g c =
+    let same : c.first.inside.codes.items ≡ c.second.inside.codes.items = search rules in
+    equal_by_tests _ _ _ _ _ _ c.first.view_is c.second.view_is c.between.result same (omega (arith, c.if-first-second.false)) c.between.ensures.1 c.in-0.is
+
+pub returns-in_default : goal.returns-in_default
+returns-in_default g c =
+    let same : c.first.inside.codes.items ≡ c.second.inside.codes.items = search rules in
+    let some : c.between.result ≡ 0 → ⊥ = search rules in
+    apart_by_tests _ _ _ _ _ _ c.first.view_is c.second.view_is c.between.result same (omega (arith, c.if-first-second.false)) c.between.ensures.1
+    (omega arith) (omega (arith, c.between.ensures.0))

@@ -1,15 +1,15 @@
--- No letter is written at first, and each step writes one more.
-use Rattle.std.proofs.Common.{arith}
-use Rattle.std.proofs.Math.Nat.{add-zero}
+-- The letter fills as much of the buffer.
 use borrow.Author.Rules.{rules}
-use Rattle.place.proofs.Place.{placed_nothing, placed_run_more}
+use Rattle.std.proofs.Common.{ℕ, ◌≡◌, ap, ◌∙◌, replicate}
+use Rattle.place.proofs.Place.{placed_by_fill}
 use Rattle.place.proofs.write_run.Goals as goal
 
-pub loop-i-init : goal.loop-i-init
-loop-i-init c = record { in_range = search rules; letters = rw add-zero (placed_nothing _ _ (omega arith)) }
-
-pub loop-i-preserved : goal.loop-i-preserved
-loop-i-preserved c = record {
-  in_range = search rules;
-  letters = placed_run_more _ _ _ _ _ (omega arith) c.loop-i.invariant.letters;
-}
+pub returns : goal.returns
+returns c =
+    let filled : c.fill.new.self ≡ replicate c.args.times c.args.letter =
+    c.fill.ensures.after (λ y same. search rules) ∙ ap (λ (n : ℕ). replicate n c.args.letter) (search rules) in
+    record {
+      fits = search rules;
+      next_place = search rules;
+      written = placed_by_fill c.args.place c.args.times c.args.letter c.args.buffer.now _ filled;
+    }

@@ -7,6 +7,6 @@ use Rattle.write_form.proofs.tail_length.Goals as goal
 
 pub returns : goal.returns
 returns c =
-    let n = c.args.tail in
-    let in_tails = c.requires in
-    omega (arith, length_tail n, head_length (tail_h n) (omega arith))
+    let n = c.args.tail.number in
+    let in_tails = c.args.tail.in_tails in
+    omega (arith, length_tail n, head_length (tail_h n) (omega arith), c.head.ensures, c.xs.ensures, c.ss.ensures, c.ws.ensures)

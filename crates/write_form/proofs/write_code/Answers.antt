@@ -1,22 +1,12 @@
--- A head, and T after it.
-use Rattle.std.proofs.Common.{◌<◌, [], ◌∷◌, length, arith, length-append}
-use Rattle.matrix.specs.Letter.{T}
+-- `write_form::write_code` meets its contract: a head, and T after it. Assumes nothing.
+use native.Mathlib.Omega.{arith}
+use lib.ListN.{length}
 use Rattle.form.specs.Tail.{head_text}
-use Rattle.place.proofs.Place.{placed_one, placed_more, placed_length}
+use Rattle.place.proofs.Written.{wrote_more, room_after}
 use Rattle.write_form.proofs.write_code.Goals as goal
 
-pub write_head-after-requires : goal.write_head-after-requires
-write_head-after-requires c = omega (arith, c.requires, length-append (head_text c.args.code) (T ∷ []))
-
-pub bounds-buffer-after : goal.bounds-buffer-after
-bounds-buffer-after c =
-    let head = c.write_head-after.ensures in
-    omega (arith, c.requires, head.next_place, length-append (head_text c.args.code) (T ∷ []))
+pub put-requires : goal.put-requires
+put-requires c = room_after (length (head_text c.args.code)) 1 (omega arith) c.requires c.write_head.ensures
 
 pub returns : goal.returns
-returns c =
-    let head = c.write_head-after.ensures in
-    let below : c.write_head-after.result < length c.write_head-after.new.buffer =
-    omega (arith, c.requires, head.next_place, placed_length head, length-append (head_text c.args.code) (T ∷ []))
-    in
-    placed_more head (placed_one _ _ T below)
+returns c = wrote_more c.write_head.ensures c.put.ensures

@@ -1,40 +1,26 @@
--- There is room for one code more, since fewer codes have a text that is no longer.
-use Rattle.std.proofs.Common.{◌+◌, [], ◌∷◌, ◌≡◌, get_or, arith, length-append}
-use borrow.Author.Rules.{rules}
-use Rattle.matrix.specs.Letter.{T}
+-- `write_form::write_codes` meets its contract: there is room for one code more. Assumes nothing.
+use Prim.Native.Nat.{◌+◌}
+use native.Mathlib.Omega.{arith}
+use mathlib.Core.List.{reverse}
+use lib.ListN.{length, get_or, take}
 use Rattle.form.specs.Tail.{head_text}
-use Rattle.stack.specs.State.{codes_text, used}
-use Rattle.place.proofs.Place.{placed_nothing, placed_more, placed_length}
-use Rattle.write_form.proofs.Codes.{text_more, length_more, fewer_shorter}
+use Rattle.extend_form.specs.Spelling.{codes_text}
+use Rattle.place.proofs.Written.{wrote_nothing, wrote_more, room_after}
+use Rattle.write_form.proofs.Codes.{text_more, next_fits}
 use Rattle.write_form.proofs.write_codes.Goals as goal
 
-pub loop-i-init : goal.loop-i-init
-unfolding used codes_text
-loop-i-init c = record { in_range = search rules; written = placed_nothing 0 _ (omega arith) }
+pub loop-code-init : goal.loop-code-init
+unfolding codes_text
+loop-code-init c = wrote_nothing _ (omega (arith, c.requires))
 
-pub write_code-place-requires : goal.write_code-place-requires
-write_code-place-requires c =
-    let stack = c.args.stack.now in
-    let i = c.loop-i.i in
-    let written = c.loop-i.invariant.written in
-    let more = c.loop-i-test.true in
-    omega (
-      arith,
-      c.requires.count_in_bounds_2,
-      written.next_place,
-      placed_length written,
-      length_more stack i,
-      fewer_shorter stack c.args.count (i + 1) (omega arith),
-      length-append (head_text (get_or stack i 0)) (T ∷ []),
-    )
+pub write_code-requires : goal.write_code-requires
+write_code-requires c =
+    let codes = c.args.codes.now in
+    let i = c.loop-code.code-index in
+    room_after (length (codes_text (reverse (take i codes)))) (length (head_text (get_or codes i 0)) + 1) (omega arith)
+    (omega (arith, c.requires, next_fits codes i c.loop-code-test.true)) c.loop-code.invariant
 
-pub loop-i-preserved : goal.loop-i-preserved
-loop-i-preserved c = record {
-  in_range = search rules;
-  written = rw text_more (placed_more c.loop-i.invariant.written c.write_code-place.ensures);
-}
-
-pub returns : goal.returns
-returns c =
-    let all : c.loop-i.i ≡ c.args.count = omega arith in
-    rw all at c.loop-i.invariant.written
+pub loop-code-preserved : goal.loop-code-preserved
+loop-code-preserved c =
+    rw (text_more c.args.codes.now c.loop-code.code-index c.loop-code-test.true)
+    (wrote_more c.loop-code.invariant c.write_code.ensures)

@@ -1,0 +1,18 @@
+-- `place::Page::put_run` meets its contract: the letter fills as much of the buffer. Assumes nothing.
+use borrow.Author.Rules.{rules}
+use Rattle.std.proofs.Common.{ℕ, ◌≡◌, ap, ◌∙◌, replicate}
+use Rattle.place.proofs.Place.{placed_by_fill}
+use Rattle.place.proofs.Page.put_run.Goals as goal
+
+pub returns : goal.returns
+returns c =
+    let filled : c.fill.new.self ≡ replicate c.args.times c.args.letter =
+    c.fill.ensures.after (λ y same. search rules) ∙ ap (λ (n : ℕ). replicate n c.args.letter) (search rules) in
+    record {
+      same_buffer = search rules;
+      placed = record {
+        fits = search rules;
+        next_place = search rules;
+        written = placed_by_fill c.args.self.now.place c.args.times c.args.letter c.args.self.now.buffer.now _ filled;
+      };
+    }
