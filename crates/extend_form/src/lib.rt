@@ -55,8 +55,9 @@ impl<const N: usize> Spelled<N> {
         requires codes { Codes (tail_h self.old.tail ∷ self.old.codes) }
         ensures { Extended self.old (T ∷ []) self.new }
     {
-        self.codes.push(self.tail.head());
-        self.tail = self.tail.past_t();
+        let tail = self.tail;
+        self.tail = tail.past_t();
+        self.codes.push(tail.head());
     }
 
     // T, joined with the T of the last code, whose head begins the tail.
@@ -65,8 +66,9 @@ impl<const N: usize> Spelled<N> {
         requires headless { tail_h self.old.tail ≡ 0 }
         ensures { Extended self.old (T ∷ []) self.new }
     {
+        let joined = self.tail.between_t();
         let code = self.codes.pop().unwrap();
-        self.tail = self.tail.between_t().behind(code);
+        self.tail = joined.behind(code);
     }
 
     // T: a code is pushed where the tail has a head or there is no code, and else the last one is taken off.

@@ -7,5 +7,5 @@ invariant_of-self g c = (kept_last _ _ _ _ c.pop.ensures.items c.unwrap-code.ens
 
 pub returns : goal.returns
 returns g c =
-    kept_joined _ _ _ _ c.pop.ensures.items c.unwrap-code.ensures c.self.invariant _ _ _ _ c.self.view_is c.between_t.ensures
+    kept_joined _ _ _ _ c.pop.ensures.items c.unwrap-code.ensures c.self.invariant _ _ _ _ c.self.view_is c.between_t-joined.ensures
     c.behind-self-inside.ensures
