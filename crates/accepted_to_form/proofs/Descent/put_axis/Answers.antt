@@ -1,0 +1,19 @@
+-- `accepted_to_form::Descent::put_axis` meets its contract: what is left after each letter has room. Assumes nothing.
+use Rattle.std.proofs.Common.{◌≡◌, rules}
+use Rattle.complete.specs.Descent.{off_y, off_x}
+use Rattle.accepted_to_form.proofs.Descends.{roomy, roomy_off_y, roomy_off_x}
+use Rattle.accepted_to_form.proofs.Descent.put_axis.Goals as goal
+
+pub take-requires-clause-past : goal.take-requires-clause-past
+take-requires-clause-past c = roomy c.requires.descends
+
+pub take-requires-2-clause-past : goal.take-requires-2-clause-past
+take-requires-2-clause-past c =
+    let first : c.take.new.self.rest ≡ off_y c.args.self.now.rest = search rules in
+    rw first (roomy_off_y c.requires.descends)
+
+pub take-requires-3-clause-past : goal.take-requires-3-clause-past
+take-requires-3-clause-past c =
+    let first : c.take.new.self.rest ≡ off_y c.args.self.now.rest = search rules in
+    let second : c.take-2.new.self.rest ≡ off_x c.take.new.self.rest = search rules in
+    rw (second, first) (roomy_off_x c.requires.descends)
