@@ -62,11 +62,14 @@ struct Input<R> {
 
 // What is still to be taken of the block.
 impl<R> Model for Input<R> {
+    ghost use Rattle.std.specs.Prelude.{ℕ, List, ◌≤◌, slice_range};
+    ghost use Rattle.lines.specs.declared.TheConstants.{BLOCK};
+
     ghost Value = { List ℕ };
 
     ghost view = { λ input. slice_range input.block input.at input.end };
 
-    ghost invariant = { λ input. (input.at ≤ input.end) × (input.end ≤ 65536) };
+    ghost invariant = { λ input. (input.at ≤ input.end) × (input.end ≤ BLOCK) };
 }
 
 impl<R: Read + Drop> Input<R> {
