@@ -10,7 +10,7 @@ ghost use Rattle.turn.specs.Room.{RoomyVector, RoomyRecord};
 use matrix::{Matrix, Row};
 use ring::{Element, Vector};
 
-// Room stands in the contracts and is no invariant of a type: a step may use it up, and only a whole descent keeps it.
+// Room stands in the contracts and is no invariant: H uses up a record's, and theorems speak of vectors of any size in one type.
 #[tactic(auto, unfolding(complete::specs::Descent::vector_without_S))]
 pub fn vector_without_s(v: Vector) -> Vector
     requires { RoomyVector v }
