@@ -3,6 +3,7 @@
 use Prim.Native.Nat.{ℕ, ◌+◌, ◌/◌, ◌%◌, ◌≤◌, ◌<◌}
 use native.Mathlib.Omega.{arith}
 use mathlib.Core.List.{List, ◌++◌, reverse}
+use mathlib.Core.Logic.{◌⊎◌, inl, inr}
 use mathlib.Core.Path.{◌≡◌, sym, ap, ap₂, subst, subst₂, ◌∙◌}
 use Rattle.std.proofs.lemmas.List.{reverse-reverse}
 use Rattle.matrix.specs.Matrix.{Same}
@@ -80,9 +81,7 @@ module _ (s s' : Spelling) (codes codes' : List ℕ) (n n' : ℕ) (view : seen c
         seen_related (unlike_forms (seen codes n) (seen codes' n') (record { codes = good; in_tails = in_tails })
         (record { codes = good'; in_tails = in_tails' }) none)
 
-    pub unlike_by_codes : (codes ≡ codes' → ⊥) → Related (spelled_text s) (spelled_text s') different
-    unlike_by_codes differ =
+    pub unlike_by : ((codes ≡ codes' → ⊥) ⊎ (n / 8 ≡ n' / 8 → ⊥)) → Related (spelled_text s) (spelled_text s') different
+    unlike_by (inl differ) =
         unlike_seen (λ j agree. differ (sym (reverse-reverse codes) ∙ ap reverse agree.codes ∙ reverse-reverse codes'))
-
-    pub unlike_by_tails : (n / 8 ≡ n' / 8 → ⊥) → Related (spelled_text s) (spelled_text s') different
-    unlike_by_tails differ = unlike_seen (λ j agree. let tail = agree.tail in differ (omega arith))
+    unlike_by (inr differ) = unlike_seen (λ j agree. let tail = agree.tail in differ (omega arith))

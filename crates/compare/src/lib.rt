@@ -43,10 +43,7 @@ fn between(from: Tail, to: Tail) -> usize
 fn relate<const N: usize>(first: &Spelled<N>, second: &Spelled<N>) -> Relation
     ensures { Related (spelled_text first.now) (spelled_text second.now) (verdict (Ok result)) }
 {
-    if first.codes != second.codes {
-        return Relation::Different;
-    }
-    if first.tail.number / 8 != second.tail.number / 8 {
+    if first.codes != second.codes || first.tail.number / 8 != second.tail.number / 8 {
         return Relation::Different;
     }
     match between(second.tail, first.tail) {

@@ -43,10 +43,7 @@ taken_more text i i< first second =
       extends = rw (add-one, take-suc text i 0 i<) (extends_more first.extends second.extends);
     }
 
--- the empty form is well formed, and spells no letters
-pub fresh_well_formed : {s : Spelling} → Fresh s → WellFormed s
-fresh_well_formed fresh = record { codes = rw fresh.no_codes no_codes; in_tails = rw fresh.no_tail (lit< tt) }
-
+-- the empty form spells no letters
 pub fresh_text : {s : Spelling} → Fresh s → spelled_text s ≡ []
 unfolding spelled_text codes_text tail_text head_text
 fresh_text fresh = rw (fresh.no_codes, fresh.no_tail)

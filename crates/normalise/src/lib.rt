@@ -18,8 +18,9 @@ pub fn normalise(
     ensures { Normalises text.now form.new result }
 {
     if STRING_LIMIT < text.len() {
-        let limit = STRING_LIMIT;
-        return Err(Refusal::TooLong { limit });
+        return Err(Refusal::TooLong {
+            limit: STRING_LIMIT,
+        });
     }
     form.clear();
     form.by_text(products, text)

@@ -31,6 +31,16 @@ impl<'a> Page<'a> {
         self.place += 1;
     }
 
+    // Letters, one after the other.
+    pub fn put_text(&mut self, text: &[u8])
+        requires { HasRoom self.old (length text.now) }
+        ensures { Wrote self.old text.now self.new }
+    {
+        let next = self.place + text.len();
+        self.buffer[self.place..next].copy_from_slice(text);
+        self.place = next;
+    }
+
     // A letter, a number of times.
     pub fn put_run(&mut self, letter: u8, times: usize)
         requires { HasRoom self.old times }
@@ -40,16 +50,6 @@ impl<'a> Page<'a> {
         self.buffer[self.place..next].fill(letter);
         self.place = next;
     }
-}
-
-// Bytes, one after the other.
-pub fn write_text(buffer: &mut [u8], place: usize, text: &[u8]) -> usize
-    requires { place + length text.now ≤ length buffer.old }
-    ensures { Placed place text.now buffer.old result buffer.new }
-{
-    let next = place + text.len();
-    buffer[place..next].copy_from_slice(text);
-    next
 }
 
 // A letter, a number of times.

@@ -43,10 +43,7 @@ fn write_head(page: &mut Page<'_>, head: u8)
     match head {
         0 => {}
         1 => page.put(b'H'),
-        _ => {
-            page.put(b'S');
-            page.put(b'H');
-        }
+        _ => page.put_text(b"SH"),
     }
 }
 

@@ -2,19 +2,21 @@
 -- tails differ by j W's. Assumes nothing.
 use borrow.Author.Rules.{rules}
 use native.Mathlib.Omega.{arith}
+use mathlib.Core.Logic.{inl, inr}
 use mathlib.Core.Path.{◌≡◌}
-use Rattle.compare.proofs.States.{equal_by_tests, apart_by_tests, unlike_by_codes, unlike_by_tails}
+use Rattle.compare.proofs.States.{equal_by_tests, apart_by_tests, unlike_by}
 use Rattle.compare.proofs.relate.Goals as goal
+use Rattle.compare.proofs.relate.Goals.{then-ne-via-then-ne, then-ne-via-else-ne+then-first-second}
 
 pub returns-then-ne : goal.returns-then-ne
 returns-then-ne g c =
-    unlike_by_codes _ _ c.first.inside.codes.items c.second.inside.codes.items _ _ c.first.view_is c.second.view_is c.first.invariant
-    c.first.inside.tail.in_tails c.second.invariant c.second.inside.tail.in_tails (λ e. search rules)
-
-pub returns-then-first-second : goal.returns-then-first-second
-returns-then-first-second g c =
-    unlike_by_tails _ _ c.first.inside.codes.items c.second.inside.codes.items _ _ c.first.view_is c.second.view_is c.first.invariant
-    c.first.inside.tail.in_tails c.second.invariant c.second.inside.tail.in_tails c.if-first-second.true
+    let unlike_when =
+    unlike_by _ _ c.first.inside.codes.items c.second.inside.codes.items _ _ c.first.view_is c.second.view_is c.first.invariant
+    c.first.inside.tail.in_tails c.second.invariant c.second.inside.tail.in_tails in
+    elim c.then-ne.branch [
+      | then-ne-via-then-ne w ↦ unlike_when (inl (λ e. search rules))
+      | then-ne-via-else-ne+then-first-second w ↦ unlike_when (inr w.if-first-second.true)
+    ]
 
 pub returns-in-0 : goal.returns-in-0
 returns-in-0 g c =

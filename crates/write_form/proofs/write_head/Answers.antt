@@ -6,7 +6,7 @@ use mathlib.Core.List.{[], ◌∷◌}
 use mathlib.Core.Path.{◌≡◌, refl}
 use Rattle.matrix.specs.Letter.{H, S}
 use Rattle.form.specs.Tail.{head_text}
-use Rattle.place.proofs.Written.{wrote_nothing, wrote_more, room_after}
+use Rattle.place.proofs.Written.{wrote_nothing}
 use Rattle.write_form.proofs.write_head.Goals as goal
 
 SH_text : (head : ℕ) → (head ≡ 0 → ⊥) → (head ≡ 1 → ⊥) → head_text head ≡ S ∷ H ∷ []
@@ -19,13 +19,8 @@ pub put-requires : goal.put-requires
 unfolding head_text
 put-requires c = rw c.in-1.is at c.requires
 
-pub put-requires-in_default : goal.put-requires-in_default
-put-requires-in_default c = let two = rw (SH_text c.args.head (search rules) (search rules)) at c.requires in omega arith
-
-pub put-requires-in_default-2 : goal.put-requires-in_default-2
-put-requires-in_default-2 c =
-    let two = rw (SH_text c.args.head (search rules) (search rules)) at c.requires in
-    room_after 1 1 (omega arith) (omega (arith, two)) c.put-in_default.ensures
+pub put_text-requires : goal.put_text-requires
+put_text-requires c = rw (SH_text c.args.head (search rules) (search rules)) at c.requires
 
 pub returns-in-0 : goal.returns-in-0
 unfolding head_text
@@ -36,5 +31,4 @@ unfolding head_text
 returns-in-1 c = rw c.in-1.is c.put.ensures
 
 pub returns-in_default : goal.returns-in_default
-returns-in_default c =
-    rw (SH_text c.args.head (search rules) (search rules)) (wrote_more c.put-in_default.ensures c.put-in_default-2.ensures)
+returns-in_default c = rw (SH_text c.args.head (search rules) (search rules)) c.put_text.ensures
