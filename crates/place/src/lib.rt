@@ -1,11 +1,11 @@
 // A lent buffer written from its start on, like a page: what is written follows what was, and all bytes after it stay.
 #![tactic(auto)]
 
-ghost use Rattle.std.specs.Prelude.{◌≡◌, ◌+◌, ◌≤◌, ◌<◌, [], ◌∷◌, length, replicate};
-ghost use Rattle.place.specs.Place.{Placed};
+ghost use Rattle.std.specs.Prelude.{◌≡◌, [], ◌∷◌, length, replicate};
 ghost use Rattle.place.specs.Page.{HasRoom, Wrote};
 
-// The buffer, and the place up to which it is written.
+// The buffer, and the place up to which it is written. How much room a call asks for is its text's own, so no one fact of the
+// page says it.
 #[derive(Drop)]
 pub struct Page<'a> {
     buffer: &'a mut [u8],
@@ -50,14 +50,4 @@ impl<'a> Page<'a> {
         self.buffer[self.place..next].fill(letter);
         self.place = next;
     }
-}
-
-// A letter, a number of times.
-pub fn write_run(buffer: &mut [u8], place: usize, letter: u8, times: usize) -> usize
-    requires { place + times ≤ length buffer.old }
-    ensures { Placed place (replicate times letter) buffer.old result buffer.new }
-{
-    let next = place + times;
-    buffer[place..next].fill(letter);
-    next
 }
