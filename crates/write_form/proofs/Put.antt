@@ -29,8 +29,12 @@ module _ (s : Spelling) (codes : List ℕ) (n : ℕ) (view : record { codes = re
   pub seen_length : {a b : ℕ} → a ≡ length (codes_text (reverse codes)) → b ≡ length (tail_text n) → a + b ≡ length (spelled_text s)
   seen_length e d = omega (arith, length-append (codes_text (reverse codes)) (tail_text n), ap length seen_text)
 
+  -- there are as many codes as are kept
+  pub seen_count : length s.codes ≡ length codes
+  seen_count = ap (λ (t : Spelling). length t.codes) (sym view) ∙ length-reverse codes
+
   seen_t_count : t_count (spelled_text s) ≡ length codes
-  seen_t_count = t_count_kept s ∙ ap (λ (t : Spelling). length t.codes) (sym view) ∙ length-reverse codes
+  seen_t_count = t_count_kept s ∙ seen_count
 
   module _ (before : List ℕ) where
     pub form_refused : {l : ℕ} → l ≡ length (spelled_text s) → length before < l → PutForm (spelled_text s) before (refusal (NoRoom l)) before

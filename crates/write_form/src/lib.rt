@@ -77,7 +77,7 @@ fn write_tail(page: &mut Page<'_>, tail: Tail)
 
 // The form that codes and a tail spell, written into a lent buffer where it has room.
 pub fn write_form<const N: usize>(form: &Spelled<N>, buffer: &mut [u8]) -> Result<Figures, Refusal>
-    requires { 3 * N + 13 < 2 ^ 64 }
+    requires { 3 * length form.now.codes + 13 < 2 ^ 64 }
     ensures { PutForm (spelled_text form.now) buffer.old (said result) buffer.new }
 {
     let codes = form.codes.as_slice();

@@ -11,23 +11,25 @@ use Rattle.extend_form.specs.Spelling.{Codes, codes_text}
 use Rattle.extend_form.proofs.Kept.{seen}
 use Rattle.place.proofs.Written.{room_after}
 use Rattle.write_form.proofs.Codes.{codes_counted, codes_short, h_count_seen}
-use Rattle.write_form.proofs.Put.{seen_length, form_refused, form_put}
+use Rattle.write_form.proofs.Put.{seen_length, seen_count, form_refused, form_put}
 use Rattle.write_form.proofs.write_form.Goals as goal
 
 pub codes_length-requires : goal.codes_length-requires
 codes_length-requires g c =
     let codes = c.as_slice-codes.result.now in
+    let view = ap (λ (k : List ℕ). seen k c.form.inside.tail.number) c.as_slice-codes.ensures.value ∙ c.form.view_is in
     let good : Codes (reverse codes) = rw c.as_slice-codes.ensures.value c.form.invariant in
-    omega (arith, c.requires, c.as_slice-codes.ensures.fits, codes_counted codes good, codes_short codes)
+    omega (arith, c.requires, seen_count _ codes _ view, codes_counted codes good, codes_short codes)
 
 pub overflow_add-length : goal.overflow_add-length
 overflow_add-length g c =
     let codes = c.as_slice-codes.result.now in
+    let view = ap (λ (k : List ℕ). seen k c.form.inside.tail.number) c.as_slice-codes.ensures.value ∙ c.form.view_is in
     let good : Codes (reverse codes) = rw c.as_slice-codes.ensures.value c.form.invariant in
     omega (
       arith,
       c.requires,
-      c.as_slice-codes.ensures.fits,
+      seen_count _ codes _ view,
       c.codes_length.ensures,
       c.tail_length.ensures,
       codes_counted codes good,
