@@ -1,5 +1,5 @@
 -- The line comes turn by turn.
-use Rattle.std.proofs.Common.{rules, ◌≡◌, []}
+use Rattle.std.proofs.Common.{rules, arith, ◌≡◌, ◌≤◌, [], length}
 use Rattle.std.proofs.lemmas.Result.{err_from_is_err_and}
 use Rattle.lines.specs.Line.{Turns}
 use Rattle.lines.proofs.Taken.{used_within}
@@ -16,7 +16,8 @@ loop-init g c = record {
 }
 
 pub take-requires : goal.take-requires
-take-requires g c = rw c.rest.ensures at (used_within c.in-Some.ensures)
+take-requires g c =
+    let within : c.in-Some.used ≤ length c.loop.self.input = rw c.rest.ensures at (used_within c.in-Some.ensures) in omega arith
 
 pub returns-in-Some-clause-line : goal.returns-in-Some-clause-line
 returns-in-Some-clause-line g c =
