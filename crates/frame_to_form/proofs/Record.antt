@@ -8,6 +8,7 @@ use Rattle.answer.specs.declared.Figures.{Figures}
 use Rattle.answer.specs.declared.Refusal.{Refusal}
 use Rattle.answer.specs.Refusal.{Said, accepted, refusal}
 use Rattle.answer.proofs.Told.{refusal_told, accepted_is_not_refused}
+use Rattle.accept_record.specs.Accept.{AcceptedRecord}
 use Rattle.frame.specs.Calls.{AcceptedFrame, FrameToMatrix, refused_frame, accepted_frame}
 use Rattle.accepted_to_form.specs.Promise.{AcceptedToForm}
 use Rattle.frame_to_form.specs.Promise.{FrameToForm, with_form}
@@ -24,6 +25,9 @@ refused_too r f = refused_as r refl f
 -- a frame that the reader accepts is that of the record that it read
 pub accepted_record : {text : List ℕ} {m : Matrix} → FrameToMatrix text (accepted m) → AcceptedFrame text m
 accepted_record (accepted_frame a) = a
+
+pub record_judged : (text : List ℕ) (m : Matrix) → FrameToMatrix text (accepted m) → AcceptedRecord m
+record_judged text m f = let read = accepted_record f in read.record_accepted
 
 -- and its form is the frame's
 pub form_too : {text before after : List ℕ} {m : Matrix} {answer : Said Figures} →

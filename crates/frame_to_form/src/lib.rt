@@ -6,7 +6,7 @@ ghost use Rattle.frame_to_form.specs.Promise.{FrameToForm};
 
 use answer::{Figures, Refusal};
 
-#[tactic(auto, using(crate::proofs::Record::refused_too, crate::proofs::Record::form_too))]
+#[tactic(auto, using(crate::proofs::Record::refused_too, crate::proofs::Record::record_judged, crate::proofs::Record::form_too))]
 pub fn frame_to_form(text: &[u8], buffer: &mut [u8]) -> Result<Figures, Refusal>
     ensures { FrameToForm text.now buffer.old (said result) buffer.new }
 {
