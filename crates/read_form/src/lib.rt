@@ -42,7 +42,7 @@ fn head_length(text: &[u8]) -> usize
     front_length(text, b"SH", b"H")
 }
 
-// The length of the syllable that a text begins with, or 0.
+// The length of the syllable that a text begins with, or 0: no Option, so that one function serves a head, whose nothing is 0 long.
 #[tactic(auto, using(crate::proofs::Beginning::leading_front))]
 fn syllable_length(text: &[u8]) -> usize
     ensures { LeadingSyllable text.now result }
