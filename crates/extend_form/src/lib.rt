@@ -55,9 +55,10 @@ impl<const N: usize> Spelled<N> {
         requires codes { Codes (tail_h self.old.tail ∷ self.old.codes) }
         ensures { Extended self.old (T ∷ []) self.new }
     {
+        // Read before a code is stored and written after it, the tail stays in a register.
         let tail = self.tail;
-        self.tail = tail.past_t();
         self.codes.push(tail.head());
+        self.tail = tail.past_t();
     }
 
     // T, joined with the T of the last code, whose head begins the tail.
