@@ -36,4 +36,4 @@ module _ (text : List ℕ) (s s' : Spelling) (fresh : Fresh s) (within : length 
       let err = err_from_is_err_and result told in
       rw (err.1, names place err.0 err.2) (bad_letter within bad)
   normalised names (Ok done) result (letters, taken) told =
-      rw told (record { accepted = record { within = within; letters = letters }; few = few_codes taken; form = form_taken taken })
+      rw told (record { accepted = record { within = within; letters = letters }; well_formed = taken.well_formed; few = few_codes taken; form = form_taken taken })

@@ -2,6 +2,7 @@
 #![tactic(auto)]
 
 ghost use Rattle.std.specs.Prelude.{◌≤◌, ◌≡◌, length};
+ghost use Rattle.answer.specs.Limits.{string_limit};
 ghost use Rattle.normalise.specs.Normalise.{Normalises};
 
 use answer::{Refusal, STRING_LIMIT};
@@ -10,11 +11,12 @@ use tail::Products;
 
 // One pass over the letters, up to a byte that is none. What was spelled before is cleared.
 #[tactic(auto, using(alphabet::specs::String::too_long))]
-pub fn normalise(
+pub fn normalise<const N: usize>(
     products: &Products,
     text: &[u8],
-    form: &mut Spelled<STRING_LIMIT>,
+    form: &mut Spelled<N>,
 ) -> Result<(), Refusal>
+    requires { string_limit ≤ N }
     ensures { Normalises text.now form.new result }
 {
     if STRING_LIMIT < text.len() {
