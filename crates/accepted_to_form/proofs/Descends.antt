@@ -8,16 +8,15 @@ use Rattle.matrix.specs.Matrix.{Unitary}
 use Rattle.complete.specs.declared.Rest.{Rest}
 use Rattle.complete.specs.Vector.{Guided, vector_of}
 use Rattle.complete.specs.Descent.{rest, without_S, without_H, without_T, lowered, record_without_S, record_without_H, record_without_T, odd_x, odd_y, odd_z, past_S, past_H, past_T, past_syllable, off_y, off_x}
-use Rattle.complete.proofs.Syllable.{norm_of_guided, past_S_guided, past_H_guided, past_syllable_guided}
+use Rattle.complete.proofs.Syllable.{past_S_guided, past_H_guided, past_syllable_guided}
 use Rattle.complete.proofs.Axis.{off_y_guided, off_x_guided}
 use Rattle.complete.proofs.Complete.{guided_of_unitary}
-use Rattle.turn.specs.Room.{RoomyRest}
+use Rattle.turn.specs.Room.{RoomyRecord}
 use Rattle.turn.proofs.Room.{roomy_record}
 use Rattle.accepted_to_form.specs.Descends.{Descends}
-use Rattle.accepted_to_form.proofs.Sizes.{roomy_vector}
 
-roomy_rest : {r : Rest} {n : ℕ} → Guided r n → r.matrix.exponent ≤ 122 → n ≤ 122 → RoomyRest r
-roomy_rest g k n = record { matrix = roomy_record g.unitary k; vector = roomy_vector (norm_of_guided g) n }
+roomy_rest : {r : Rest} {n : ℕ} → Guided r n → r.matrix.exponent ≤ 122 → RoomyRecord r.matrix
+roomy_rest g k = roomy_record g.unitary k
 
 -- whichever way a test turns out, the exponent stays below
 exponent_either : (t : Bool) (r s : Rest) (k : ℕ) → r.matrix.exponent ≤ k → s.matrix.exponent ≤ k → (cond t r s).matrix.exponent ≤ k
@@ -45,24 +44,24 @@ unfolding off_x record_without_H
 exponent_off_x r = exponent_either (odd_x r) (without_H r) r (r.matrix.exponent + 1) (omega arith) (omega arith)
 
 module _ {r : Rest} {n : ℕ} (d : Descends r n) where
-  pub roomy : RoomyRest r
-  roomy = roomy_rest d.guided (omega (arith, d.room)) (omega (arith, d.room))
+  pub roomy : RoomyRecord r.matrix
+  roomy = roomy_rest d.guided (omega (arith, d.room))
 
-  pub roomy_past_S : RoomyRest (past_S r)
-  roomy_past_S = roomy_rest (past_S_guided d.guided) (omega (arith, d.room, exponent_past_S r)) (omega (arith, d.room))
+  pub roomy_past_S : RoomyRecord (past_S r).matrix
+  roomy_past_S = roomy_rest (past_S_guided d.guided) (omega (arith, d.room, exponent_past_S r))
 
-  pub roomy_past_H : RoomyRest (past_H (past_S r))
+  pub roomy_past_H : RoomyRecord (past_H (past_S r)).matrix
   roomy_past_H =
       roomy_rest (past_H_guided (past_S_guided d.guided))
-      (omega (arith, d.room, exponent_past_S r, exponent_past_H (past_S r))) (omega (arith, d.room))
+      (omega (arith, d.room, exponent_past_S r, exponent_past_H (past_S r)))
 
-  pub roomy_off_y : RoomyRest (off_y r)
-  roomy_off_y = roomy_rest (off_y_guided d.guided) (omega (arith, d.room, exponent_off_y r)) (omega (arith, d.room))
+  pub roomy_off_y : RoomyRecord (off_y r).matrix
+  roomy_off_y = roomy_rest (off_y_guided d.guided) (omega (arith, d.room, exponent_off_y r))
 
-  pub roomy_off_x : RoomyRest (off_x (off_y r))
+  pub roomy_off_x : RoomyRecord (off_x (off_y r)).matrix
   roomy_off_x =
       roomy_rest (off_x_guided (off_y_guided d.guided))
-      (omega (arith, d.room, exponent_off_y r, exponent_off_x (off_y r))) (omega (arith, d.room))
+      (omega (arith, d.room, exponent_off_y r, exponent_off_x (off_y r)))
 
 -- a step down
 pub descends_syllable : {r : Rest} {n : ℕ} → Descends r (suc n) → Descends (past_syllable r) n

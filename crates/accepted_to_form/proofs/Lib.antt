@@ -1,4 +1,3 @@
-pub mod Sizes
 pub mod Descends
 pub mod Taken
 pub mod Phases

@@ -82,7 +82,11 @@ impl Descent {
     {
         self.take(b'S', self.rest.vector.y.is_odd(), descend::off_y);
         self.take(b'H', self.rest.vector.x.is_odd(), descend::off_x);
-        self.take(b'X', descend::is_downward(self.rest), descend::turned_up);
+        self.take(
+            b'X',
+            descend::is_downward(self.rest.vector),
+            descend::turned_up,
+        );
     }
 
     // The letters of a diagonal record: T or nothing, S's and W's.

@@ -24,7 +24,7 @@ use Rattle.matrix.proofs.Unitary.{isometry_of_unitary, unitary_same, unitary_mat
 use Rattle.form.specs.Count.{t_count}
 use Rattle.form.proofs.Count.{t_count_append, t_count_replicate}
 use Rattle.complete.specs.declared.Rest.{Rest}
-use Rattle.ring.specs.declared.Real.{Real}
+use Rattle.ring.specs.Number.{Number}
 use Rattle.ring.specs.Real.{number, real}
 use Rattle.complete.specs.Vector.{vector_of, two, Guided}
 use Rattle.complete.specs.Descent.{rest, if_taken, odd_x, odd_y, odd_z, past_S, past_H, syllable_taken, past_syllable, off_y, off_x, downward, axis_taken, upright, turn, phases_text, diagonal_text, phase, word_below, word_of}
@@ -35,10 +35,10 @@ use Rattle.complete.proofs.Diagonal.{diagonal_means}
 
 -- ---- the vector of a record's first column
 -- 2·p = x + iy and 2·conj(p) = x − iy, with x and y numbers of Z[√2]
-abbrev doubled_x : Element → Real
+abbrev doubled_x : Element → Number
 doubled_x p = number (p.a0 +ℤ p.a0) (p.a1 -ℤ p.a3)
 
-abbrev doubled_y : Element → Real
+abbrev doubled_y : Element → Number
 doubled_y p = number (p.a2 +ℤ p.a2) (p.a1 +ℤ p.a3)
 
 doubled : (p : Element) → product two p ≡ sum (real (doubled_x p)) (product omega2 (real (doubled_y p)))

@@ -17,7 +17,7 @@ use Rattle.ring.proofs.Ring.{elements}
 use Rattle.matrix.specs.Matrix.{times}
 use Rattle.matrix.specs.Letter.{gate_T}
 use Rattle.matrix.proofs.Unitary.{Isometry}
-use Rattle.ring.specs.declared.Real.{Real}
+use Rattle.ring.specs.Number.{Number}
 use Rattle.complete.specs.declared.Rest.{Rest}
 use Rattle.ring.specs.Real.{real, over_root2, half_sum, half_difference}
 use Rattle.complete.specs.Vector.{Bloch, Led}
@@ -25,7 +25,7 @@ use Rattle.complete.specs.Descent.{turned_back, without_T, lowered, record_witho
 use Rattle.complete.proofs.Turn.{omega_unit, omega2_squared, back_product, conjugate_back, phase_restored, phase_isometry, phase_bloch}
 
 -- a number with an even whole part is √2 times another
-pub real_over_root2 : (r : Real) → odd r.whole ≡ false → real r ≡ product root2 (real (over_root2 r))
+pub real_over_root2 : (r : Number) → odd r.whole ≡ false → real r ≡ product root2 (real (over_root2 r))
 unfolding real over_root2 product sum multiple turned root2
 real_over_root2 r even =
     ap (λ (w : ℤ). element w r.root2 (pos 0) (neg_ℤ r.root2)) (even_half r.whole even)
@@ -55,7 +55,7 @@ by_sum a c e =
     (given (con (pos 1)) (var 1 ⊕ ⊖ var 0) (var 3 ⊕ var 3) (even_difference a c e) done))
     (var 1 ⊕ var 1) ((var 2 ⊕ var 3) ⊕ (var 2 ⊕ var 3)) tt)
 
-real_by_difference : (r s : Real) → odd r.whole ≡ odd s.whole → odd r.root2 ≡ odd s.root2 →
+real_by_difference : (r s : Number) → odd r.whole ≡ odd s.whole → odd r.root2 ≡ odd s.root2 →
     real r ≡ sum (real (half_sum r s)) (negation (real (half_difference s r)))
 unfolding real half_sum half_difference sum negation
 real_by_difference r s whole_parts root2_parts =
@@ -64,7 +64,7 @@ real_by_difference r s whole_parts root2_parts =
     (half (r.whole +ℤ s.whole) ∷ half (r.root2 +ℤ s.root2) ∷ half (s.whole -ℤ r.whole) ∷ half (s.root2 -ℤ r.root2) ∷ [])
     (realᶠ (var 0 ⊕ ⊖ var 2) (var 1 ⊕ ⊖ var 3)) (realᶠ (var 0) (var 1) +ᶠ (-ᶠ realᶠ (var 2) (var 3))) (tt, tt, tt, tt)
 
-real_by_sum : (r s : Real) → odd r.whole ≡ odd s.whole → odd r.root2 ≡ odd s.root2 →
+real_by_sum : (r s : Number) → odd r.whole ≡ odd s.whole → odd r.root2 ≡ odd s.root2 →
     real s ≡ sum (real (half_sum r s)) (real (half_difference s r))
 unfolding real half_sum half_difference sum
 real_by_sum r s whole_parts root2_parts =

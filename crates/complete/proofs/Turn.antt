@@ -18,7 +18,7 @@ use Rattle.matrix.specs.Matrix.{matrix, times, Same, EqualOver, column_product}
 use Rattle.matrix.specs.Letter.{gate_H, gate_S, gate_X}
 use Rattle.matrix.proofs.Entries.{equal_entries}
 use Rattle.matrix.proofs.Unitary.{Isometry}
-use Rattle.ring.specs.declared.Real.{Real}
+use Rattle.ring.specs.Number.{Number}
 use Rattle.complete.specs.declared.Rest.{Rest}
 use Rattle.ring.specs.Real.{real, negated}
 use Rattle.complete.specs.Vector.{two, Bloch, Led}
@@ -129,7 +129,7 @@ module _ (p q : Element) (unit : product p q ≡ one) (moved : Element → Eleme
         ∙ b.bottom ∙ lower;
   }
 
-pub real_negated : (r : Real) → real (negated r) ≡ negation (real r)
+pub real_negated : (r : Number) → real (negated r) ≡ negation (real r)
 unfolding real negated negation
 real_negated r = refl
 

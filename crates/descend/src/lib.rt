@@ -1,14 +1,15 @@
 // A unitary record taken down in machine arithmetic: the vector of its first column tells each letter that is taken off.
 #![tactic(auto)]
 
-ghost use Rattle.std.specs.Prelude.{false, IsTrue, ◌&&◌, ◌≡◌, ◌^◌, ◌+ℤ◌, ◌-ℤ◌};
+ghost use Rattle.std.specs.Prelude.{pos, false, IsTrue, ◌&&◌, ◌≡◌, ◌^◌, ◌+ℤ◌, ◌-ℤ◌};
+ghost use Rattle.std.specs.Int.Signed.{lt_z};
 ghost use Rattle.algebra.specs.Parity.{odd};
 ghost use Rattle.ring.specs.Element.{size_whole, size_root2};
 ghost use Rattle.ring.specs.Bounds.{Small};
 ghost use Rattle.ring.specs.Real.{number};
 ghost use Rattle.complete.specs.Vector.{vector_of};
 ghost use Rattle.complete.specs.Descent.{without_S, without_H, without_X, without_T, lowered, past_S, past_H, past_T, off_y, off_x, downward, turned_up, by_sign, phase};
-ghost use Rattle.turn.specs.Room.{RoomyRest};
+ghost use Rattle.turn.specs.Room.{RoomyRecord};
 
 use complete::Rest;
 use matrix::Matrix;
@@ -17,7 +18,7 @@ use std::cmp::Ordering;
 
 // 2·p = x + iy: x, and y.
 fn x_of(p: Element) -> Real
-    requires { Small (2 ^ 61) p }
+    requires { Small (2 ^ 60) p }
     ensures { result ≡ number (p.a0 +ℤ p.a0) (p.a1 -ℤ p.a3) }
 {
     Real {
@@ -27,7 +28,7 @@ fn x_of(p: Element) -> Real
 }
 
 fn y_of(p: Element) -> Real
-    requires { Small (2 ^ 61) p }
+    requires { Small (2 ^ 60) p }
     ensures { result ≡ number (p.a2 +ℤ p.a2) (p.a1 +ℤ p.a3) }
 {
     Real {
@@ -92,28 +93,28 @@ fn without<M: FnOnce(Matrix) -> Matrix, V: FnOnce(Vector) -> Vector>(
 }
 
 fn without_s(r: Rest) -> Rest
-    requires { RoomyRest r }
+    requires { RoomyRecord r.matrix }
     ensures { result ≡ without_S r }
 {
     without(r, turn::record_without_s, turn::vector_without_s)
 }
 
 fn without_h(r: Rest) -> Rest
-    requires { RoomyRest r }
+    requires { RoomyRecord r.matrix }
     ensures { result ≡ without_H r }
 {
     without(r, turn::record_without_h, turn::vector_without_h)
 }
 
 fn without_x(r: Rest) -> Rest
-    requires { RoomyRest r }
+    requires { RoomyRecord r.matrix }
     ensures { result ≡ without_X r }
 {
     without(r, turn::record_without_x, turn::vector_without_x)
 }
 
 fn without_t(r: Rest) -> Rest
-    requires { RoomyRest r }
+    requires { RoomyRecord r.matrix }
     ensures { result ≡ without_T r }
 {
     without(r, turn::record_without_t, turn::vector_without_t)
@@ -140,26 +141,29 @@ fn past<F: FnOnce(Rest) -> Rest>(taken: bool, r: Rest, without: F) -> Rest
 // Above exponent 0: S taken off where x and z are odd, then H where y and z are, then T where x and y are.
 #[tactic(auto, unfolding(complete::specs::Descent::past_S))]
 pub fn past_s(r: Rest) -> Rest
-    requires { RoomyRest r }
+    requires { RoomyRecord r.matrix }
     ensures { result ≡ past_S r }
 {
-    past(odd_pair(r.vector.x, r.vector.z), r, without_s)
+    let v = r.vector;
+    past(odd_pair(v.x, v.z), r, without_s)
 }
 
 #[tactic(auto, unfolding(complete::specs::Descent::past_H))]
 pub fn past_h(r: Rest) -> Rest
-    requires { RoomyRest r }
+    requires { RoomyRecord r.matrix }
     ensures { result ≡ past_H r }
 {
-    past(odd_pair(r.vector.y, r.vector.z), r, without_h)
+    let v = r.vector;
+    past(odd_pair(v.y, v.z), r, without_h)
 }
 
 #[tactic(auto, unfolding(complete::specs::Descent::past_T))]
 pub fn past_t(r: Rest) -> Rest
-    requires { RoomyRest r }
+    requires { RoomyRecord r.matrix }
     ensures { result ≡ past_T r }
 {
-    if odd_pair(r.vector.x, r.vector.y) {
+    let v = r.vector;
+    if odd_pair(v.x, v.y) {
         without_t(r)
     } else {
         lowered(r)
@@ -169,33 +173,36 @@ pub fn past_t(r: Rest) -> Rest
 // At exponent 0: S taken off from the y axis, H from the x axis, X from −z.
 #[tactic(auto, unfolding(complete::specs::Descent::off_y))]
 pub fn off_y(r: Rest) -> Rest
-    requires { RoomyRest r }
+    requires { RoomyRecord r.matrix }
     ensures { result ≡ off_y r }
 {
-    past(r.vector.y.is_odd(), r, without_s)
+    let v = r.vector;
+    past(v.y.is_odd(), r, without_s)
 }
 
 #[tactic(auto, unfolding(complete::specs::Descent::off_x))]
 pub fn off_x(r: Rest) -> Rest
-    requires { RoomyRest r }
+    requires { RoomyRecord r.matrix }
     ensures { result ≡ off_x r }
 {
-    past(r.vector.x.is_odd(), r, without_h)
+    let v = r.vector;
+    past(v.x.is_odd(), r, without_h)
 }
 
 // Whether the vector points below the plane.
-pub fn is_downward(r: Rest) -> bool
-    ensures { result ≡ downward r }
+pub fn is_downward(v: Vector) -> bool
+    ensures { result ≡ lt_z v.z.whole (pos 0) }
 {
-    r.vector.z.whole < 0
+    v.z.is_negative()
 }
 
 #[tactic(auto, unfolding(complete::specs::Descent::turned_up))]
 pub fn turned_up(r: Rest) -> Rest
-    requires { RoomyRest r }
+    requires { RoomyRecord r.matrix }
     ensures { result ≡ turned_up r }
 {
-    past(is_downward(r), r, without_x)
+    let v = r.vector;
+    past(is_downward(v), r, without_x)
 }
 
 #[tactic(auto, unfolding(complete::specs::Descent::by_sign))]

@@ -12,7 +12,7 @@ use mir.Facts.{to_z-of_z}
 use Rattle.algebra.specs.Parity.{half}
 use Rattle.ring.specs.Bounds.{Bounded}
 use Rattle.ring.proofs.Bounds.{stored, known, ◌⊟◌, fits, exact_stored, sum_exact, bounded_fits, bounded_sum, bounded_negation}
-use Rattle.ring.specs.declared.Real.{Real}
+use Rattle.ring.specs.Number.{Number}
 use Rattle.ring.specs.Real.{number, vector}
 
 shift_half : (z : ℤ) → shr_z z 2 ≡ half z
@@ -50,5 +50,5 @@ pub equal_parts : {a b a' b' : ℤ} → a ≡ a' → b ≡ b' → number a b ≡
 equal_parts p q = λ i. number (p i) (q i)
 
 -- and so are vectors with equal numbers
-pub equal_vectors : {x y z x' y' z' : Real} → x ≡ x' → y ≡ y' → z ≡ z' → vector x y z ≡ vector x' y' z'
+pub equal_vectors : {x y z x' y' z' : Number} → x ≡ x' → y ≡ y' → z ≡ z' → vector x y z ≡ vector x' y' z'
 equal_vectors p q r = λ i. vector (p i) (q i) (r i)

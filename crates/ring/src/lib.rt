@@ -2,12 +2,15 @@
 // the numbers of Z[√2].
 #![tactic(auto)]
 
-ghost use Rattle.std.specs.Prelude.{◌^◌, true, ◌↔◌, ◌≡◌};
+ghost use Rattle.std.specs.Prelude.{pos, ◌^◌, true, ◌↔◌, ◌≡◌};
+ghost use Rattle.std.specs.Int.Signed.{lt_z};
 ghost use Rattle.algebra.specs.Parity.{odd};
 ghost use Rattle.ring.specs.Element.{sum, negation, multiple, turned, product, conjugate, root2};
 ghost use Rattle.ring.specs.Bounds.{Small, Multiplied, Factors};
 ghost use Rattle.ring.specs.Divided.{Root2Divides, Double};
-ghost use Rattle.ring.specs.Real.{negated, over_root2, half_sum, half_difference, RoomyNumber};
+ghost use Rattle.ring.specs.Real.{negated, over_root2, half_sum, half_difference};
+
+use std::marker::Model;
 
 #[derive(Clone, Copy, PartialEq, Eq)]
 pub struct Element {
@@ -163,11 +166,23 @@ impl Element {
     }
 }
 
-// A number of Z[√2]: whole + root2·√2.
+// A number of Z[√2], whole + root2·√2, whose parts leave room in 64 bits: a sum of two and a change of sign stay exact.
 #[derive(Clone, Copy)]
 pub struct Real {
     pub whole: i64,
     pub root2: i64,
+}
+
+impl Model for Real {
+    ghost use Rattle.ring.specs.Number.{Number, RoomyNumber};
+
+    ghost Value = { Number };
+
+    ghost view = { λ r. record { whole = r.whole; root2 = r.root2 } };
+
+    ghost invariant = { λ r. RoomyNumber (record { whole = r.whole; root2 = r.root2 }) };
+
+    ghost inverse = { λ r. record { whole = r.whole; root2 = r.root2 } };
 }
 
 impl Real {
@@ -178,8 +193,14 @@ impl Real {
         odd(self.whole)
     }
 
+    // Whether the number's whole part is below zero.
+    pub fn is_negative(self) -> bool
+        ensures { result ≡ lt_z self.whole (pos 0) }
+    {
+        self.whole < 0
+    }
+
     pub fn negated(self) -> Real
-        requires { RoomyNumber self }
         ensures { result ≡ negated self }
     {
         Real {
@@ -199,8 +220,6 @@ impl Real {
     }
 
     pub fn half_sum(self, other: Real) -> Real
-        requires roomy_number { RoomyNumber self }
-        requires roomy_number_2 { RoomyNumber other }
         ensures { result ≡ half_sum self other }
     {
         Real {
@@ -210,8 +229,6 @@ impl Real {
     }
 
     pub fn half_difference(self, other: Real) -> Real
-        requires roomy_number { RoomyNumber self }
-        requires roomy_number_2 { RoomyNumber other }
         ensures { result ≡ half_difference self other }
     {
         Real {

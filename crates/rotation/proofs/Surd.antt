@@ -9,12 +9,12 @@ use Rattle.algebra.proofs.Solver.{var, con, ◌⊕◌, ⊖◌, solve}
 use Rattle.ring.specs.declared.Element.{Element}
 use Rattle.ring.specs.Element.{one, root2, sum, multiple}
 use Rattle.ring.proofs.Formal.{◌+ᶠ◌, multipleᶠ, wholeᶠ, root2ᶠ, realᶠ, coefficientwise}
-use Rattle.ring.specs.declared.Real.{Real}
+use Rattle.ring.specs.Number.{Number}
 use Rattle.rotation.specs.Rotation.{surd}
 use Rattle.ring.specs.Real.{number, real}
 use Rattle.rotation.proofs.Parity.{odd_element}
 
-pub real_is_surd : (r : Real) → real r ≡ surd r.whole r.root2
+pub real_is_surd : (r : Number) → real r ≡ surd r.whole r.root2
 unfolding surd sum multiple one root2 real
 real_is_surd r =
     coefficientwise (r.whole ∷ r.root2 ∷ []) (realᶠ (var 0) (var 1))

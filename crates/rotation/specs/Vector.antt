@@ -4,27 +4,27 @@ use Rattle.ring.specs.Element.{omega2, sum, negation, product}
 use Rattle.matrix.specs.declared.Matrix.{Matrix}
 use Rattle.matrix.specs.Matrix.{matrix}
 use Rattle.matrix.specs.Letter.{H, S, T, X, Y, Z}
-use Rattle.ring.specs.declared.Real.{Real}
+use Rattle.ring.specs.Number.{Number}
 use Rattle.ring.specs.declared.Vector.{Vector}
 use Rattle.ring.specs.Real.{number, real, negated, vector}
 use Rattle.rotation.specs.Rotation.{Axis, axis_X, axis_Y, axis_Z}
 
 -- ---- numbers
 -- the sum
-unfoldable pub added : Real → Real → Real
+unfoldable pub added : Number → Number → Number
 added r s = number (r.whole +ℤ s.whole) (r.root2 +ℤ s.root2)
 
 -- the difference
-unfoldable pub subtracted : Real → Real → Real
+unfoldable pub subtracted : Number → Number → Number
 subtracted r s = number (r.whole -ℤ s.whole) (r.root2 -ℤ s.root2)
 
 -- √2·(a + b√2) = 2b + a√2
-unfoldable pub by_root2 : Real → Real
+unfoldable pub by_root2 : Number → Number
 by_root2 r = number (r.root2 +ℤ r.root2) r.whole
 
 -- ---- vectors
 -- the number along an axis
-unfoldable pub at : Vector → Axis → Real
+unfoldable pub at : Vector → Axis → Number
 at v axis_X = v.x
 at v axis_Y = v.y
 at v axis_Z = v.z

@@ -2,22 +2,11 @@
 use Rattle.std.specs.Prelude.{◌^◌, ◌<◌}
 use Rattle.ring.specs.Bounds.{Small}
 use Rattle.matrix.specs.declared.Matrix.{Matrix}
-use Rattle.ring.specs.Real.{RoomyNumber}
-use Rattle.ring.specs.declared.Vector.{Vector}
-use Rattle.complete.specs.declared.Rest.{Rest}
 
-pub record RoomyVector (v : Vector) : Type 0 where
-  pub x : RoomyNumber v.x
-  pub y : RoomyNumber v.y
-  pub z : RoomyNumber v.z
-
+-- a record whose elements leave room
 pub record RoomyRecord (m : Matrix) : Type 0 where
   pub exponent : m.exponent < 2 ^ 31
   pub top_left : Small (2 ^ 61) m.top.left
   pub top_right : Small (2 ^ 61) m.top.right
   pub bottom_left : Small (2 ^ 61) m.bottom.left
   pub bottom_right : Small (2 ^ 61) m.bottom.right
-
-pub record RoomyRest (r : Rest) : Type 0 where
-  pub matrix : RoomyRecord r.matrix
-  pub vector : RoomyVector r.vector

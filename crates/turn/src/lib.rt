@@ -5,15 +5,13 @@
 ghost use Rattle.std.specs.Prelude.{◌≡◌, ◌^◌};
 ghost use Rattle.ring.specs.Bounds.{Small};
 ghost use Rattle.complete.specs.Descent.{turned_back, vector_without_S, vector_without_H, vector_without_X, vector_without_T, vector_lowered, record_without_S, record_without_H, record_without_X, record_without_T};
-ghost use Rattle.turn.specs.Room.{RoomyVector, RoomyRecord};
+ghost use Rattle.turn.specs.Room.{RoomyRecord};
 
 use matrix::{Matrix, Row};
 use ring::{Element, Vector};
 
-// Room stands in the contracts and is no invariant: H uses up a record's, and theorems speak of vectors of any size in one type.
 #[tactic(auto, unfolding(complete::specs::Descent::vector_without_S))]
 pub fn vector_without_s(v: Vector) -> Vector
-    requires { RoomyVector v }
     ensures { result ≡ vector_without_S v }
 {
     Vector {
@@ -25,7 +23,6 @@ pub fn vector_without_s(v: Vector) -> Vector
 
 #[tactic(auto, unfolding(complete::specs::Descent::vector_without_H))]
 pub fn vector_without_h(v: Vector) -> Vector
-    requires { RoomyVector v }
     ensures { result ≡ vector_without_H v }
 {
     Vector {
@@ -37,7 +34,6 @@ pub fn vector_without_h(v: Vector) -> Vector
 
 #[tactic(auto, unfolding(complete::specs::Descent::vector_without_X))]
 pub fn vector_without_x(v: Vector) -> Vector
-    requires { RoomyVector v }
     ensures { result ≡ vector_without_X v }
 {
     Vector {
@@ -49,7 +45,6 @@ pub fn vector_without_x(v: Vector) -> Vector
 
 #[tactic(auto, unfolding(complete::specs::Descent::vector_without_T))]
 pub fn vector_without_t(v: Vector) -> Vector
-    requires { RoomyVector v }
     ensures { result ≡ vector_without_T v }
 {
     Vector {
@@ -84,6 +79,7 @@ fn turned_back(x: Element) -> Element
     }
 }
 
+// Room stands in the contracts and is no invariant of a record: H may double its elements.
 #[tactic(auto, unfolding(complete::specs::Descent::record_without_T))]
 pub fn record_without_t(m: Matrix) -> Matrix
     requires { RoomyRecord m }

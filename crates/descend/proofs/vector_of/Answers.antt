@@ -9,7 +9,6 @@ use Rattle.ring.specs.Bounds.{Small}
 use Rattle.ring.proofs.Bounds.{small_more, numeral_room, conjugate_factor, small_conjugate_product}
 use Rattle.ring.specs.Real.{number, vector}
 use Rattle.complete.specs.Vector.{vector_of}
-use Rattle.descend.proofs.Products.{roomy}
 use Rattle.descend.proofs.vector_of.Goals as goal
 
 pub times-p-requires : goal.times-p-requires
@@ -18,12 +17,12 @@ times-p-requires c = conjugate_factor (numeral_room (tt, tt, tt)) c.requires.sma
 pub x_of-requires : goal.x_of-requires
 x_of-requires c =
     let column_product : Small (2 ^ 60) c.times-p.result = small_more (lit≤ tt) (small_conjugate_product c.requires.small_2 c.requires.small c.conjugated.ensures c.times-p.ensures) in
-    roomy column_product
+    column_product
 
 pub y_of-requires : goal.y_of-requires
 y_of-requires c =
     let column_product : Small (2 ^ 60) c.times-p.result = small_more (lit≤ tt) (small_conjugate_product c.requires.small_2 c.requires.small c.conjugated.ensures c.times-p.ensures) in
-    roomy column_product
+    column_product
 
 pub returns : goal.returns
 unfolding vector_of

@@ -4,7 +4,7 @@ use Prim.Native.Nat.{◌^◌}
 use lib.Dec.{lit≤}
 use Rattle.ring.specs.Bounds.{Small}
 use Rattle.ring.proofs.Bounds.{small_more, small_negated, numeral_room, conjugate_factor, small_conjugate_product}
-use Rattle.descend.proofs.Products.{roomy, sizes}
+use Rattle.descend.proofs.Products.{roomy, roomy_z, small_difference, sizes}
 use Rattle.descend.proofs.z_of.Goals as goal
 
 pub times-up-requires : goal.times-up-requires
@@ -23,6 +23,12 @@ plus-z-requires c =
     let up : Small (2 ^ 60) c.times-up.result = small_more (lit≤ tt) (small_conjugate_product c.requires.small c.requires.small c.conjugated.ensures c.times-up.ensures) in
     let down : Small (2 ^ 60) c.times-down.result = small_more (lit≤ tt) (small_conjugate_product c.requires.small_2 c.requires.small_2 c.conjugated-2.ensures c.times-down.ensures) in
     record { small = roomy up; small_2 = small_negated c.negated.ensures (roomy down) }
+
+pub invariant_of-result : goal.invariant_of-result
+invariant_of-result c =
+    let up : Small (2 ^ 60) c.times-up.result = small_more (lit≤ tt) (small_conjugate_product c.requires.small c.requires.small c.conjugated.ensures c.times-up.ensures) in
+    let down : Small (2 ^ 60) c.times-down.result = small_more (lit≤ tt) (small_conjugate_product c.requires.small_2 c.requires.small_2 c.conjugated-2.ensures c.times-down.ensures) in
+    roomy_z (small_difference up down c.negated.ensures c.plus-z.ensures)
 
 pub returns : goal.returns
 returns c =

@@ -11,4 +11,4 @@ overflow_sub-result-2 c = search difference_fits
 
 pub returns : goal.returns
 unfolding half_difference
-returns c = search (half_difference_exact, equal_parts)
+returns c = rw (← c.self.view_is, ← c.other.view_is) (search (half_difference_exact, equal_parts))

@@ -12,4 +12,4 @@ overflow_add-result-2 c = search sum_fits
 
 pub returns : goal.returns
 unfolding half_sum
-returns c = search (half_sum_exact, equal_parts)
+returns c = rw (← c.self.view_is, ← c.other.view_is) (search (half_sum_exact, equal_parts))

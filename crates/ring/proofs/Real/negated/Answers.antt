@@ -12,4 +12,4 @@ overflow_sub-result-2 c = search negation_fits
 
 pub returns : goal.returns
 unfolding negated
-returns c = search (negation_exact, equal_parts)
+returns c = rw (← c.self.view_is) (search (negation_exact, equal_parts))

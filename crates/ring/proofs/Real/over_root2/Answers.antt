@@ -7,4 +7,4 @@ use Rattle.ring.proofs.Real.over_root2.Goals as goal
 
 pub returns : goal.returns
 unfolding over_root2
-returns c = search (to_z-of_z, half_exact, sfits_of, equal_parts)
+returns c = rw (← c.self.view_is) (search (to_z-of_z, half_exact, sfits_of, equal_parts))
