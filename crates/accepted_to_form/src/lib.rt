@@ -19,7 +19,7 @@ use matrix::Matrix;
 // The most letters of an accepted record.
 const MOST_LETTERS: usize = 254;
 
-// The letters so far, and what is left of the record.
+// The letters so far, and what is left of the record. Room for letters stands in the contracts, since letters use it up.
 #[derive(Drop)]
 struct Descent {
     letters: ArrayVec<u8, MOST_LETTERS>,

@@ -89,7 +89,7 @@ fn refusal_answer(refusal: Refusal) -> Answer {
     answer
 }
 
-// `no`, refusal, place, and which string it concerns.
+// `no`, refusal, place, and which string it concerns: report's `put_refusal` ends the line before that.
 fn refused_answer(refused: Refused) -> Answer {
     let mut answer = answer_of(b"no");
     put_field(&mut answer, refused.refusal.number() as u64);

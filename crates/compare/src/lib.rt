@@ -52,7 +52,8 @@ fn relate<const N: usize>(first: &Spelled<N>, second: &Spelled<N>) -> Relation
     }
 }
 
-// The second string is looked at only when the first was accepted.
+// The second string is looked at only when the first was accepted: that answer is taken apart by `let .. else`, which the project
+// fixes.
 pub fn compare(first: &[u8], second: &[u8]) -> Result<Relation, Refused>
     ensures { Compare first.now second.now (verdict result) }
 {

@@ -92,6 +92,7 @@ fn without<M: FnOnce(Matrix) -> Matrix, V: FnOnce(Vector) -> Vector>(
     }
 }
 
+// Room stands in the contracts, as in `turn`: a step may use it up.
 fn without_s(r: Rest) -> Rest
     requires { RoomyRecord r.matrix }
     ensures { result ≡ without_S r }

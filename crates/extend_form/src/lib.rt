@@ -41,7 +41,7 @@ impl<const N: usize> Spelled<N> {
         }
     }
 
-    // The empty form again.
+    // The empty form again, part by part: to assign `Self::new()` would clear the bytes of the codes too.
     pub fn clear(&mut self)
         ensures { Fresh self.new }
     {
@@ -49,7 +49,7 @@ impl<const N: usize> Spelled<N> {
         self.tail = Tail { number: 0 };
     }
 
-    // T, pushed as a code with the tail's head.
+    // T, pushed as a code with the tail's head. Room for a code stands in the contracts, since a code uses it up.
     fn push_t(&mut self)
         requires room { length self.old.codes < N }
         requires codes { Codes (tail_h self.old.tail ∷ self.old.codes) }

@@ -85,7 +85,7 @@ fn write_number(part: &mut [u8], n: u32)
     }
 }
 
-// The sixteen words that 128 digits stand for.
+// The sixteen words that 128 digits stand for, by place as in `write_words`.
 fn read_words(text: &[u8]) -> [u32; 16]
     requires { length text.now ≡ 128 }
     ensures { EachIndex result (λ i. slice_index result i ≡ number_of (slice_range text.now (8 * i) (8 * i + 8))) }
@@ -114,7 +114,7 @@ fn check_word(exponent: u32, words: &[u32; 16]) -> u32
 {
     let mut sum = exponent;
     for word in words {
-        sum = std::num::wrapping_add_u32(sum, *word);
+        sum = sum.wrapping_add(*word);
     }
     sum
 }

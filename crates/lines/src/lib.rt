@@ -50,7 +50,7 @@ pub fn take_line<const N: usize>(line: &mut ArrayVec<u8, N>, part: &[u8]) -> Opt
 }
 
 // An input, of which a block is read at a time: from `at` up to `end` the block is still to be taken. `closed` is true once
-// no more can come.
+// no more can come. No ArrayVec, since a reader fills a slice, and no Option in place of `closed`, since the block stays.
 #[derive(Drop)]
 struct Input<R> {
     reader: R,

@@ -4,8 +4,8 @@
 ghost use Rattle.std.specs.Prelude.{◌≡◌, [], ◌∷◌, length, replicate};
 ghost use Rattle.place.specs.Page.{HasRoom, Wrote};
 
-// The buffer, and the place up to which it is written. How much room a call asks for is its text's own, so no one fact of the
-// page says it.
+// The buffer, and the place up to which it is written: the C interface lends a slice, so it is no ArrayVec. How much room a
+// call asks for is its text's own, so no one fact of the page says it.
 #[derive(Drop)]
 pub struct Page<'a> {
     buffer: &'a mut [u8],

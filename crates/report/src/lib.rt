@@ -13,7 +13,7 @@ use arrayvec::ArrayVec;
 // How much longer than its form a line can be.
 pub const LINE_ROOM: usize = 46;
 
-// A number in decimal.
+// A number in decimal. Room stands in the contracts here, since each line uses up its own.
 #[tactic(auto, using(crate::proofs::Number::written_decimal))]
 pub fn put_number<const N: usize>(output: &mut ArrayVec<u8, N>, n: u64)
     requires { array_vec_len output.old + number_room ≤ N }
@@ -50,7 +50,7 @@ fn put_form<const N: usize>(output: &mut ArrayVec<u8, N>, figures: Figures, buff
     lines::put(output, b"\n");
 }
 
-// `no`, refusal, place.
+// `no`, refusal, place. Not by a `Display` of the refusal: of what a `fmt` writes no contract tells the bytes.
 #[tactic(auto, using(crate::proofs::Lines::no_line_added))]
 pub fn put_refusal<const N: usize>(output: &mut ArrayVec<u8, N>, refusal: Refusal)
     requires { array_vec_len output.old + line_room ≤ N }

@@ -1,6 +1,6 @@
 -- Numbers of Z[√2] and vectors of three, which are over a power of √2: the Bloch vector of a record's first column, and what a
 -- rotation matrix makes of an axis.
-use Rattle.std.specs.Prelude.{ℤ, pos, ◌+ℤ◌, ◌-ℤ◌, neg_ℤ, ◌^◌}
+use Rattle.std.specs.Prelude.{ℤ, pos, ◌+ℤ◌, ◌-ℤ◌, neg_ℤ}
 use Rattle.algebra.specs.Parity.{half}
 use Rattle.ring.specs.declared.Element.{Element}
 use Rattle.ring.specs.Number.{Number}

@@ -20,6 +20,7 @@ pub struct Element {
     pub a3: i64,
 }
 
+// Sums and products are methods by value, and not operators: the project fixes this form.
 impl Element {
     // Nothing, and the fixed elements one, ω, ω² and √2.
     pub const NOTHING: Element = Element {
@@ -228,13 +229,11 @@ impl Real {
         }
     }
 
+    #[tactic(auto, unfolding(crate::specs::Real::half_difference, crate::specs::Real::half_sum, crate::specs::Real::negated))]
     pub fn half_difference(self, other: Real) -> Real
         ensures { result ≡ half_difference self other }
     {
-        Real {
-            whole: (self.whole - other.whole) >> 1,
-            root2: (self.root2 - other.root2) >> 1,
-        }
+        self.half_sum(other.negated())
     }
 }
 

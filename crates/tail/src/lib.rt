@@ -114,7 +114,8 @@ impl Tail {
         }
     }
 
-    // T, this tail of X, S and W, and T: c grows by 1, or with b = 1 a grows by 1.
+    // T, this tail of X, S and W, and T: c grows by 1, or with b = 1 a grows by 1. That a tail has no head stands in contracts: a type
+    // of such tails would be made at one place alone, and left at the next.
     pub fn between_t(self) -> Tail
         requires { tail_h self.number ≡ 0 }
         ensures { BetweenT self.number result.number }
@@ -137,7 +138,8 @@ impl Tail {
     }
 }
 
-// The column of a letter other than T, without a branch: H leaves 72, S 83, and W, X, Y and Z leave 1 to 4.
+// The column of a letter other than T, without a branch: H leaves 72, S 83, and W, X, Y and Z leave 1 to 4. A letter is a byte of
+// a lent text, and the contracts say that it is one: a type of letters would have to be made of each byte.
 fn column(letter: u8) -> u8
     requires { (is_letter letter ≡ true) × (letter ≡ T → ⊥) }
     ensures { Column letter result }

@@ -1,6 +1,6 @@
 -- `frame::check_word` meets its contract. The loop's invariant: the sum is that of the exponent and the words before the
 -- loop's place, modulo 2^32. Assumes nothing.
-use Rattle.std.proofs.Common.{◌^◌, ◌<◌, arith, rules, ◌∙◌}
+use Rattle.std.proofs.Common.{◌^◌, ◌<◌, arith, rules}
 use Rattle.frame.specs.Frame.{total}
 use Rattle.frame.proofs.Parts.{sum_more}
 use Rattle.frame.proofs.check_word.Goals as goal
@@ -14,4 +14,4 @@ loop-word-init c =
 pub loop-word-preserved : goal.loop-word-preserved
 loop-word-preserved c =
     let l = c.loop-word in
-    c.wrapping_add_u32-sum.ensures.value ∙ sum_more c.args.words.now l.word-index c.args.exponent l.sum (omega arith) l.invariant
+    sum_more c.args.words.now l.word-index c.args.exponent l.sum (omega arith) l.invariant
