@@ -40,7 +40,7 @@ pub struct Figures {
 }
 
 impl Refusal {
-    // The number of the refusal in the table.
+    // The number of the refusal in the table, which the promises name: a `From` would name neither the table nor its column.
     pub fn number(self) -> u32
         ensures { result ≡ number self }
     {

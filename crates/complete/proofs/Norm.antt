@@ -1,5 +1,5 @@
--- The vector of a column has the length that its exponent says: the two equations of its parts_of follow from the
--- determinant of the column's products, which is zero. Read modulo two they say which parts_of are odd together.
+-- The vector of a column has the length that its exponent says: the two equations of its numerators follow from the
+-- determinant of the column's products, which is zero. Read modulo two they say which numerators are odd together.
 -- Assumes nothing.
 use mathlib.Core.Path.{◌≡◌, refl, ap, ap₂, sym, ◌∙◌}
 use mathlib.Core.Bool.{Bool, true, false, ◌&&◌, true≢false, false≢true}
@@ -59,7 +59,7 @@ squares v =
     ((realᶠ (var 0) (var 1) *ᶠ realᶠ (var 0) (var 1) +ᶠ realᶠ (var 2) (var 3) *ᶠ realᶠ (var 2) (var 3)) +ᶠ realᶠ (var 4) (var 5) *ᶠ realᶠ (var 4) (var 5))
     (realᶠ whole_partᶠ (root2_partᶠ ⊕ root2_partᶠ)) (tt, tt, tt, tt)
 
--- the parts_of a + b√2, c + d√2, e + f√2 of a vector over (√2)^n: a² + c² + e² + 2(b² + d² + f²) = 2^n, ab + cd + ef = 0
+-- the numerators a + b√2, c + d√2, e + f√2 of a vector over (√2)^n: a² + c² + e² + 2(b² + d² + f²) = 2^n, ab + cd + ef = 0
 pub record Norm (v : Vector) (n : ℕ) : Type 0 where
   pub whole_squares :
       v.x.whole *ℤ v.x.whole +ℤ v.y.whole *ℤ v.y.whole +ℤ v.z.whole *ℤ v.z.whole

@@ -127,7 +127,7 @@ fn lowered(roomy: RoomyRecord) -> RoomyRecord
     RoomyRecord { matrix }
 }
 
-// The least record.
+// The least record. A `while`, since it counts nothing.
 fn least(product: RoomyRecord) -> Matrix
     ensures { LeastRecord product.matrix result }
 {
