@@ -1,3 +1,4 @@
 pub mod Kept
 pub mod Taken
 pub mod Answering
+pub mod Blocks

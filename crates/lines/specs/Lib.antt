@@ -1,2 +1,3 @@
+pub mod Rest
 pub mod Line
 pub mod Calls

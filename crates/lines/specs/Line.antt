@@ -1,6 +1,7 @@
 -- Document 01, "The programs": lines. A line is the bytes up to the next line end, or up to the end of the input; of a
 -- longer line its first bytes are kept, as many as the line buffer holds.
-use Rattle.std.specs.Prelude.{ℕ, ◌+◌, Option, Some, None, Result, Ok, Err, Bool, true, false, not, ◌==◌, List, [], ◌∷◌, ◌++◌, ◌≡◌, length, take, drop}
+use Rattle.std.specs.Prelude.{ℕ, ◌+◌, ◌<◌, ◌≤◌, Option, Some, None, Result, Ok, Err, Bool, true, false, not, ◌==◌, List, [], ◌∷◌, ◌++◌, ◌≡◌, length, take}
+use Rattle.lines.specs.Rest.{Rest, moved, ReadsOn}
 
 abbrev pub line_end : ℕ
 line_end = 10
@@ -22,25 +23,49 @@ pub data Takes (part so_far : List ℕ) (room : ℕ) : Option ℕ → List ℕ �
 abbrev pub last : List ℕ → Bool
 last line = not (length line == 0)
 
--- How the next line comes, turn by turn, from the part of the input that is still to be taken, with `so_far` of it held:
--- the line ends in the part; or it goes on, and is read on; or it is the last; or reading or writing fails, and there is no
--- line. At exit the line and the part that is then still to be taken. What is read no contract can say.
-pub data Turns (room : ℕ) {E : Type 0} : (part so_far : List ℕ) → Result Bool E → (line rest : List ℕ) → Type 0 where
+-- How the next line comes, turn by turn, from what the input still has, with `so_far` of the line held and `pending` still to
+-- be written: the line ends in the part; or it goes on, and after what is pending is written it is read on; or it is the last;
+-- or, where it goes on, writing or reading fails, and there is no line. At exit the line, what the input then still has, and
+-- what is then still to be written.
+pub data Turns (room : ℕ) {E : Type 0} : (input : Rest) (so_far pending : List ℕ) → Result Bool E → (line : List ℕ) (rest : Rest) (left : List ℕ) → Type 0 where
   line_ends :
-      {part so_far line : List ℕ} {used : ℕ} → Takes part so_far room (Some used) line →
-      Turns room part so_far (Ok true) line (drop used part)
+      {input : Rest} {so_far pending line : List ℕ} {used : ℕ} → Takes input.part so_far room (Some used) line →
+      Turns room input so_far pending (Ok true) line (moved input used) pending
   goes_on :
-      {part so_far held line rest : List ℕ} {answer : Result Bool E} → Takes part so_far room None held → (more : List ℕ) →
-      Turns room more held answer line rest → Turns room part so_far answer line rest
+      {input more rest : Rest} {so_far pending held line left : List ℕ} {answer : Result Bool E} →
+      Takes input.part so_far room None held → ReadsOn input true more → Turns room more held [] answer line rest left →
+      Turns room input so_far pending answer line rest left
   ended :
-      {part so_far line : List ℕ} → Takes part so_far room None line → Turns room part so_far (Ok (last line)) line []
-  failed : {part so_far line rest : List ℕ} {error : E} → Turns room part so_far (Err error) line rest
+      {input rest : Rest} {so_far pending line : List ℕ} → Takes input.part so_far room None line → ReadsOn input false rest →
+      Turns room input so_far pending (Ok (last line)) line rest []
+  failed :
+      {input rest : Rest} {so_far pending held line left : List ℕ} {error : E} → Takes input.part so_far room None held →
+      Turns room input so_far pending (Err error) line rest left
 
--- How the lines are answered from the part of the input that is still to be taken: each one that comes is given to what
--- answers, as the lines before have left it, until no further line comes; or reading or writing fails. `Gives` is one answer.
-pub data Answers (room : ℕ) {E F : Type 0} (Gives : F → List ℕ → F → Type 0) : (part : List ℕ) → F → Result (Unit {0}) E → Type 0 where
-  over : {part line rest : List ℕ} {f : F} → Turns room {E = E} part [] (Ok false) line rest → Answers room Gives part f (Ok tt)
+-- How there comes to be room for so many bytes more, where `most` may be pending: what is pending stays where there is room,
+-- and is else written first.
+pub data Room (most room : ℕ) (pending : List ℕ) : List ℕ → Type 0 where
+  there : length pending + room ≤ most → Room most room pending pending
+  made : most < length pending + room → Room most room pending []
+
+-- How the next line comes with room for so many bytes more: turn by turn, once there is room; or, where there is none, writing
+-- fails first, and nothing is taken of the input.
+pub data Comes (held most room : ℕ) {E : Type 0} (input : Rest) (pending : List ℕ) : Result Bool E → (line : List ℕ) (rest : Rest) (left : List ℕ) → Type 0 where
+  turns :
+      {ready line left : List ℕ} {rest : Rest} {answer : Result Bool E} → Room most room pending ready →
+      Turns held input [] ready answer line rest left → Comes held most room input pending answer line rest left
+  no_room :
+      {line left : List ℕ} {error : E} → most < length pending + room →
+      Comes held most room input pending (Err error) line input left
+
+-- How the lines are answered from what the input still has: each one that comes is given to what answers, as the lines before
+-- have left it, until no further line comes; or reading or writing fails. `Gives` is one answer.
+pub data Answers (held most room : ℕ) {E F : Type 0} (Gives : F → List ℕ → F → Type 0) : (input : Rest) → F → Result (Unit {0}) E → Type 0 where
+  over :
+      {input rest : Rest} {line pending left : List ℕ} {f : F} → Comes held most room {E = E} input pending (Ok false) line rest left →
+      Answers held most room Gives input f (Ok tt)
   answered :
-      {part line rest : List ℕ} {f f' : F} {result : Result (Unit {0}) E} → Turns room {E = E} part [] (Ok true) line rest →
-      Gives f line f' → Answers room Gives rest f' result → Answers room Gives part f result
-  failed : {part : List ℕ} {f : F} {error : E} → Answers room Gives part f (Err error)
+      {input rest : Rest} {line pending left : List ℕ} {f f' : F} {result : Result (Unit {0}) E} →
+      Comes held most room {E = E} input pending (Ok true) line rest left → Gives f line f' →
+      Answers held most room Gives rest f' result → Answers held most room Gives input f result
+  failed : {input : Rest} {f : F} {error : E} → Answers held most room Gives input f (Err error)

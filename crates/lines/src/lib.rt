@@ -1,10 +1,12 @@
 // Lines of an input, one after the other in bounded memory, and lines of an output in large blocks.
 #![tactic(auto)]
 
-ghost use Rattle.std.specs.Prelude.{false, ℕ, List, ◌≡◌, ◌+◌, ◌≤◌, ◌++◌, [], length, take, drop, slice_range, OnOk, IfOk};
+ghost use Rattle.std.specs.Prelude.{◌≡◌, ◌+◌, ◌<◌, ◌≤◌, ◌++◌, [], length, take, OnOk, OnErr, IfOk};
+ghost use Rattle.std.specs.Io.KnownBytes.{Appends};
 ghost use Rattle.arrayvec.specs.ArrayVec.{array_vec_len};
 ghost use Rattle.lines.specs.Calls.{CalledAtLine};
-ghost use Rattle.lines.specs.Line.{Takes, last, Turns, Answers};
+ghost use Rattle.lines.specs.Rest.{unread, moved, ReadsOn};
+ghost use Rattle.lines.specs.Line.{Takes, Room, Comes, Answers};
 
 use arrayvec::ArrayVec;
 use memchr::memchr;
@@ -60,21 +62,22 @@ struct Input<R> {
     closed: bool,
 }
 
-// What is still to be taken of the block.
+// Clauses see what is still to be taken of the block, where that begins, and whether the input is closed.
 impl<R> Model for Input<R> {
-    ghost use Rattle.std.specs.Prelude.{ℕ, List, ◌≤◌, slice_range};
+    ghost use Rattle.std.specs.Prelude.{◌≤◌, slice_range};
+    ghost use Rattle.lines.specs.Rest.{Rest};
     ghost use Rattle.lines.specs.declared.TheConstants.{BLOCK};
 
-    ghost Value = { List ℕ };
+    ghost Value = { Rest };
 
-    ghost view = { λ input. slice_range input.block input.at input.end };
+    ghost view = { λ input. record { at = input.at; part = slice_range input.block input.at input.end; closed = input.closed } };
 
     ghost invariant = { λ input. (input.at ≤ input.end) × (input.end ≤ BLOCK) };
 }
 
 impl<R: Read + Drop> Input<R> {
     fn new(reader: R) -> Self
-        ensures { result ≡ [] }
+        ensures { result ≡ unread }
     {
         Self {
             reader,
@@ -86,21 +89,21 @@ impl<R: Read + Drop> Input<R> {
     }
 
     fn rest(&self) -> &[u8]
-        ensures { result.now ≡ self.now }
+        ensures { result.now ≡ self.now.part }
     {
         &self.block[self.at..self.end]
     }
 
     fn take(&mut self, used: usize)
-        requires { used ≤ length self.old }
-        ensures { self.new ≡ drop used self.old }
+        requires { used ≤ length self.old.part }
+        ensures { self.new ≡ moved self.old used }
     {
         self.at += used;
     }
 
     // Reads the next part: `false` once no more can come.
     fn read(&mut self) -> io::Result<bool>
-        ensures { IfOk result (λ more. more ≡ false → self.new ≡ []) }
+        ensures { IfOk result (λ more. ReadsOn self.old more self.new) }
     {
         self.at = 0;
         self.end = 0;
@@ -125,7 +128,7 @@ pub struct Lines<R, W, const N: usize> {
 impl<R: Read + Drop, W: Write + Drop, const N: usize> Lines<R, W, N> {
     // Nothing is read and nothing is to be written yet.
     pub fn new(reader: R, writer: W) -> Self
-        ensures nothing_read { result.input ≡ [] }
+        ensures nothing_read { result.input ≡ unread }
         ensures nothing_to_write { result.output.items ≡ [] }
     {
         Self {
@@ -138,6 +141,7 @@ impl<R: Read + Drop, W: Write + Drop, const N: usize> Lines<R, W, N> {
 
     // Writes what is still to be written.
     fn write_out(&mut self) -> io::Result<()>
+        ensures sent { OnOk result (Appends (W.contents self.old.writer) (W.contents self.new.writer) self.old.output.items) }
         ensures written { OnOk result (self.new.output.items ≡ []) }
         ensures input { self.new.input ≡ self.old.input }
         ensures line { self.new.line ≡ self.old.line }
@@ -150,6 +154,8 @@ impl<R: Read + Drop, W: Write + Drop, const N: usize> Lines<R, W, N> {
     // Writes what is still to be written, unless there is room for so many bytes more.
     fn make_room(&mut self, room: usize) -> io::Result<()>
         requires { room ≤ BLOCK }
+        ensures made { OnOk result (Room BLOCK room self.old.output.items self.new.output.items) }
+        ensures full { OnErr result (BLOCK < array_vec_len self.old.output + room) }
         ensures room { OnOk result (array_vec_len self.new.output + room ≤ BLOCK) }
         ensures input { self.new.input ≡ self.old.input }
     {
@@ -161,8 +167,9 @@ impl<R: Read + Drop, W: Write + Drop, const N: usize> Lines<R, W, N> {
 
     // Writes what is ready before it waits for input, and reads the next part: `false` once no more can come.
     fn read_on(&mut self) -> io::Result<bool>
+        ensures sent { OnOk result (Appends (W.contents self.old.writer) (W.contents self.new.writer) self.old.output.items) }
         ensures written { OnOk result (self.new.output.items ≡ []) }
-        ensures ended { IfOk result (λ more. more ≡ false → self.new.input ≡ []) }
+        ensures read { IfOk result (λ more. ReadsOn self.old.input more self.new.input) }
         ensures line { self.new.line ≡ self.old.line }
     {
         self.write_out()?;
@@ -173,7 +180,7 @@ impl<R: Read + Drop, W: Write + Drop, const N: usize> Lines<R, W, N> {
     // is one that no input uses up.
     pub fn next_line(&mut self, room: usize) -> io::Result<bool>
         requires { room ≤ BLOCK }
-        ensures line { Turns N self.old.input [] result self.new.line.items self.new.input }
+        ensures line { Comes N BLOCK room self.old.input self.old.output.items result self.new.line.items self.new.input self.new.output.items }
         ensures room { OnOk result (array_vec_len self.new.output + room ≤ BLOCK) }
     {
         self.make_room(room)?;
@@ -199,7 +206,7 @@ impl<R: Read + Drop, W: Write + Drop, const N: usize> Lines<R, W, N> {
     ) -> io::Result<()>
         requires room { room ≤ BLOCK }
         requires callable { (state : F) (line : _) (output : _) → length line.now ≤ N → array_vec_len output.now + room ≤ BLOCK → F.pre state line output }
-        ensures answered { Answers N (CalledAtLine F.FnMut) self.old.input answer result }
+        ensures answered { Answers N BLOCK room (CalledAtLine F.FnMut) self.old.input answer result }
         ensures written { OnOk result (self.new.output.items ≡ []) }
     {
         for _ in 0..u64::MAX {

@@ -6,5 +6,5 @@ use Rattle.lines.proofs.Input.take.Goals as goal
 pub returns : goal.returns
 returns g c =
     let i = c.self.inside in
-    let within : c.args.used ≤ length (slice_range i.block i.at i.end) = rw c.self.view_is c.requires in
-    rw (← c.self.view_is) (range_without i.block i.at i.end c.args.used within)
+    let within : c.args.used ≤ length (slice_range i.block i.at i.end) = rw (← c.self.view_is) at c.requires in
+    rw (← c.self.view_is) (rw (range_without i.block i.at i.end c.args.used within))

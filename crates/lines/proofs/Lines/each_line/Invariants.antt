@@ -7,5 +7,5 @@ use Rattle.lines.proofs.Lines.each_line.Given as goal
 
 abbrev pub invariant-loop : goal.invariant-loop
 invariant-loop g l =
-    (result : Result (Unit {0}) Error) → Answers g.row.N (CalledAtLine g.F.FnMut) l.self.input l.answer result →
-    Answers g.row.N (CalledAtLine g.F.FnMut) l.fn.self.input l.fn.answer result
+    (result : Result (Unit {0}) Error) → Answers g.row.N 65536 l.room (CalledAtLine g.F.FnMut) l.self.input l.answer result →
+    Answers g.row.N 65536 l.room (CalledAtLine g.F.FnMut) l.fn.self.input l.fn.answer result
