@@ -1,6 +1,6 @@
 -- Document 01, "The programs": lines. A line is the bytes up to the next line end, or up to the end of the input; of a
 -- longer line its first bytes are kept, as many as the line buffer holds.
-use Rattle.std.specs.Prelude.{ℕ, ◌+◌, ◌<◌, ◌≤◌, Option, Some, None, Result, Ok, Err, Bool, true, false, not, ◌==◌, List, [], ◌∷◌, ◌++◌, ◌≡◌, length, take}
+use Rattle.std.specs.Prelude.{ℕ, suc, ◌+◌, ◌<◌, ◌≤◌, Option, Some, None, Result, Ok, Err, Bool, true, false, not, ◌==◌, List, [], ◌∷◌, ◌++◌, ◌≡◌, length, take}
 use Rattle.lines.specs.Rest.{Rest, moved, ReadsOn}
 
 abbrev pub line_end : ℕ
@@ -58,14 +58,21 @@ pub data Comes (held most room : ℕ) {E : Type 0} (input : Rest) (pending : Lis
       {line left : List ℕ} {error : E} → most < length pending + room →
       Comes held most room input pending (Err error) line input left
 
--- How the lines are answered from what the input still has: each one that comes is given to what answers, as the lines before
--- have left it, until no further line comes; or reading or writing fails. `Gives` is one answer.
-pub data Answers (held most room : ℕ) {E F : Type 0} (Gives : F → List ℕ → F → Type 0) : (input : Rest) → F → Result (Unit {0}) E → Type 0 where
+-- How the lines are answered, in so many turns, from what the input still has, with `pending` still to be written: each one
+-- that comes is given to what answers, as the lines before have left it, which adds to what is pending; until no further line
+-- comes; or writing or reading fails; or no turn is left. `Gives` is one answer.
+pub data Answers (held most room : ℕ) {E F : Type 0} (Gives : F → (line pending : List ℕ) → F → (left : List ℕ) → Type 0) : (turns : ℕ) (input : Rest) (pending : List ℕ) → F → Result (Unit {0}) E → Type 0 where
   over :
-      {input rest : Rest} {line pending left : List ℕ} {f : F} → Comes held most room {E = E} input pending (Ok false) line rest left →
-      Answers held most room Gives input f (Ok tt)
+      {turns : ℕ} {input rest : Rest} {pending line left : List ℕ} {f : F} → Comes held most room {E = E} input pending (Ok false) line rest left →
+      Answers held most room Gives (suc turns) input pending f (Ok tt)
   answered :
-      {input rest : Rest} {line pending left : List ℕ} {f f' : F} {result : Result (Unit {0}) E} →
-      Comes held most room {E = E} input pending (Ok true) line rest left → Gives f line f' →
-      Answers held most room Gives rest f' result → Answers held most room Gives input f result
-  failed : {input : Rest} {f : F} {error : E} → Answers held most room Gives input f (Err error)
+      {turns : ℕ} {input rest : Rest} {pending line ready left : List ℕ} {f f' : F} {result : Result (Unit {0}) E} →
+      Comes held most room {E = E} input pending (Ok true) line rest ready → Gives f line ready f' left →
+      Answers held most room Gives turns rest left f' result → Answers held most room Gives (suc turns) input pending f result
+  failed :
+      {turns : ℕ} {input rest : Rest} {pending line left : List ℕ} {f : F} {error : E} → Comes held most room input pending (Err error) line rest left →
+      Answers held most room Gives (suc turns) input pending f (Err error)
+  unwritten :
+      {turns : ℕ} {input rest : Rest} {pending line left : List ℕ} {f : F} {error : E} → Comes held most room {E = E} input pending (Ok false) line rest left →
+      Answers held most room Gives (suc turns) input pending f (Err error)
+  used_up : {input : Rest} {pending : List ℕ} {f : F} {error : E} → Answers held most room Gives 0 input pending f (Err error)

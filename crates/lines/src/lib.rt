@@ -1,7 +1,7 @@
 // Lines of an input, one after the other in bounded memory, and lines of an output in large blocks.
 #![tactic(auto)]
 
-ghost use Rattle.std.specs.Prelude.{◌≡◌, ◌+◌, ◌<◌, ◌≤◌, ◌++◌, [], length, take, OnOk, OnErr, IfOk};
+ghost use Rattle.std.specs.Prelude.{◌≡◌, ◌+◌, ◌-◌, ◌^◌, ◌<◌, ◌≤◌, ◌++◌, [], length, take, OnOk, OnErr, IfOk};
 ghost use Rattle.std.specs.Io.KnownBytes.{Appends};
 ghost use Rattle.arrayvec.specs.ArrayVec.{array_vec_len};
 ghost use Rattle.lines.specs.Calls.{CalledAtLine};
@@ -206,7 +206,7 @@ impl<R: Read + Drop, W: Write + Drop, const N: usize> Lines<R, W, N> {
     ) -> io::Result<()>
         requires room { room ≤ BLOCK }
         requires callable { (state : F) (line : _) (output : _) → length line.now ≤ N → array_vec_len output.now + room ≤ BLOCK → F.pre state line output }
-        ensures answered { Answers N BLOCK room (CalledAtLine F.FnMut) self.old.input answer result }
+        ensures answered { Answers N BLOCK room (CalledAtLine F.FnMut) (2 ^ 64 - 1) self.old.input self.old.output.items answer result }
         ensures written { OnOk result (self.new.output.items ≡ []) }
     {
         for _ in 0..u64::MAX {

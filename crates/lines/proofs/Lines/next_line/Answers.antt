@@ -1,5 +1,5 @@
 -- The line comes turn by turn, once there is room.
-use Rattle.std.proofs.Common.{rules, arith, ◌≡◌, ◌≤◌, [], length, true, false}
+use Rattle.std.proofs.Common.{rules, arith, ◌≡◌, ◌≤◌, length, false}
 use Rattle.std.proofs.lemmas.Result.{err_from_is_err_and}
 use Rattle.lines.specs.Line.{Turns, Comes}
 use Rattle.lines.proofs.Taken.{used_within}

@@ -1,5 +1,5 @@
 -- There is room, and as the next line comes from what is held now, so it comes from the start; after a turn it may also fail.
-use Rattle.std.proofs.Common.{Bool, ℕ, List, [], ◌+◌, ◌<◌, ◌≤◌}
+use Rattle.std.proofs.Common.{Bool, ℕ, List, ◌+◌, ◌<◌, ◌≤◌}
 use Rattle.std.specs.Prelude.{Result, Err}
 use Rattle.std.specs.declared.io.Error.{Error}
 use Rattle.arrayvec.specs.ArrayVec.{array_vec_len}
