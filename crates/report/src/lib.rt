@@ -3,15 +3,23 @@
 
 ghost use Rattle.std.specs.Prelude.{◌≡◌, ◌+◌, ◌≤◌, ◌++◌, length, take};
 ghost use Rattle.arrayvec.specs.ArrayVec.{array_vec_len};
+ghost use Rattle.answer.specs.Limits.{form_limit};
 ghost use Rattle.answer.specs.Refusal.{number, place, said};
 ghost use Rattle.report.specs.Decimal.{decimal};
 ghost use Rattle.report.specs.Report.{field, ok_line, no_line, answer_line, number_room, field_room, line_room};
 
-use answer::{Figures, Refusal};
+use answer::{FORM_LIMIT, Figures, Refusal};
 use arrayvec::ArrayVec;
 
 // How much longer than its form a line can be.
 pub const LINE_ROOM: usize = 46;
+
+// Room for any form.
+pub fn form_buffer() -> [u8; FORM_LIMIT]
+    ensures { form_limit ≡ length result }
+{
+    [0; FORM_LIMIT]
+}
 
 // A number in decimal. Room stands in the contracts here, since each line uses up its own.
 #[tactic(auto, using(crate::proofs::Number::written_decimal))]
