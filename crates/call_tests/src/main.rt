@@ -3,6 +3,7 @@
 #![tactic(auto)]
 
 ghost use Rattle.std.specs.Prelude.{◌≡◌, ◌+◌, ◌≤◌, length};
+ghost use Rattle.answer.specs.Limits.{form_limit, frame_length};
 ghost use Rattle.arrayvec.specs.ArrayVec.{array_vec_len};
 
 use answer::{FORM_LIMIT, FRAME_LENGTH, Refusal};
@@ -13,6 +14,7 @@ use matrix::Matrix;
 use memchr::memchr;
 use read_form::Reading;
 use report::{put_field, put_number, put_refusal};
+use std::io::{Read, Write};
 
 // `read ` and one byte more than a form may have, so that a longer text is seen to be longer. A comparison's two strings
 // need less.
@@ -101,9 +103,16 @@ fn refused_answer(refused: Refused) -> Answer {
     answer
 }
 
+// Room for a frame.
+fn frame_buffer() -> [u8; FRAME_LENGTH]
+    ensures { frame_length ≡ length result }
+{
+    [0; FRAME_LENGTH]
+}
+
 // A frame read and written again.
 fn frame_again(text: &[u8]) -> Result<Answer, Refusal> {
-    let mut frame = [0; FRAME_LENGTH];
+    let mut frame = frame_buffer();
     frame::matrix_to_frame(frame::frame_to_matrix(text)?, &mut frame)?;
     let mut answer = answer_of(b"ok ");
     put(&mut answer, &frame);
@@ -137,8 +146,15 @@ fn answer(line: &[u8]) -> Answer {
     answered.unwrap_or_else(refusal_answer)
 }
 
-fn main(rt: HostRuntime) {
-    let mut lines: Lines<_, _, LINE> = Lines::new(rt.stdin(), rt.stdout());
+// Answers each line. A line is held as `LINE` says.
+fn run<R: Read + Drop, W: Write + Drop, const N: usize>(lines: &mut Lines<R, W, N>)
+    requires { form_limit + 6 ≡ N }
+{
     // Where reading or writing fails, the program ends as at the end of the input.
     let _ = lines.each_line(ROOM, |line, output| put(output, &answer(line)));
+}
+
+fn main(rt: HostRuntime) {
+    let mut lines: Lines<_, _, LINE> = Lines::new(rt.stdin(), rt.stdout());
+    run(&mut lines);
 }
