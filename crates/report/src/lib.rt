@@ -53,7 +53,7 @@ fn put_form<const N: usize>(output: &mut ArrayVec<u8, N>, figures: Figures, buff
     lines::put(output, b"ok");
     put_field(output, figures.tcount as u64);
     put_field(output, figures.hcount as u64);
-    lines::put(output, b" ");
+    lines::put(output, b" "); // An empty form leaves it.
     lines::put(output, &buffer[..length]);
     lines::put(output, b"\n");
 }
