@@ -25,8 +25,8 @@ last line = not (length line == 0)
 
 -- How the next line comes, turn by turn, from what the input still has, with `so_far` of the line held and `pending` still to
 -- be written: the line ends in the part; or it goes on, and after what is pending is written it is read on; or it is the last;
--- or, where it goes on, writing or reading fails, and there is no line. At exit the line, what the input then still has, and
--- what is then still to be written.
+-- or, where it goes on, writing or reading fails, or no turn is left, and there is no line. At exit the line, what the input
+-- then still has, and what is then still to be written.
 pub data Turns (room : ℕ) {E : Type 0} : (input : Rest) (so_far pending : List ℕ) → Result Bool E → (line : List ℕ) (rest : Rest) (left : List ℕ) → Type 0 where
   line_ends :
       {input : Rest} {so_far pending line : List ℕ} {used : ℕ} → Takes input.part so_far room (Some used) line →
