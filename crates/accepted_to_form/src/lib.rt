@@ -19,27 +19,33 @@ use matrix::Matrix;
 // The most letters of an accepted record.
 const MOST_LETTERS: usize = 254;
 
-// The letters so far, and what is left of the record. Room for letters stands in the contracts, since letters use it up.
+// The letters so far. Room for letters stands in the contracts, since letters use it up.
+// What is left of the record goes from call to call by value: in the struct it would go to memory after each letter.
 #[derive(Drop)]
 struct Descent {
     letters: ArrayVec<u8, MOST_LETTERS>,
-    rest: Rest,
 }
 
 impl Descent {
     // A letter, where it is taken, and what is left then.
     #[tactic(auto, unfolding(complete::specs::Descent::if_taken))]
-    fn take<F: FnOnce(Rest) -> Rest>(&mut self, letter: u8, taken: bool, past: F)
+    fn take<F: FnOnce(Rest) -> Rest>(
+        &mut self,
+        letter: u8,
+        taken: bool,
+        rest: Rest,
+        past: F,
+    ) -> Rest
         requires room { array_vec_len self.old.letters < most_letters }
-        requires past { F.pre past self.old.rest }
+        requires past { F.pre past rest }
         ensures written { self.new.letters.items ≡ self.old.letters.items ++ if_taken taken letter }
         ensures upper_bound { array_vec_len self.new.letters ≤ array_vec_len self.old.letters + 1 }
-        ensures rest { F.post past self.old.rest self.new.rest }
+        ensures rest { F.post past rest result }
     {
         if taken {
             self.letters.push(letter);
         }
-        self.rest = past(self.rest);
+        past(rest)
     }
 
     // A letter, a number of times.
@@ -47,7 +53,6 @@ impl Descent {
         requires { array_vec_len self.old.letters + times ≤ most_letters }
         ensures written { self.new.letters.items ≡ self.old.letters.items ++ replicate times letter }
         ensures length { array_vec_len self.new.letters ≡ array_vec_len self.old.letters + times }
-        ensures rest { self.new.rest ≡ self.old.rest }
     {
         for _ in 0..times {
             self.letters.push(letter);
@@ -56,48 +61,47 @@ impl Descent {
 
     // T, HT, SHT or nothing taken off, and written.
     #[tactic(auto, unfolding(complete::specs::Descent::syllable_taken, complete::specs::Descent::past_syllable))]
-    fn put_syllable(&mut self)
+    fn put_syllable(&mut self, rest: Rest) -> Rest
         requires room { array_vec_len self.old.letters + 3 ≤ most_letters }
-        requires above_zero { AboveZero self.old.rest }
-        ensures written { self.new.letters.items ≡ self.old.letters.items ++ syllable_taken self.old.rest }
+        requires above_zero { AboveZero rest }
+        ensures written { self.new.letters.items ≡ self.old.letters.items ++ syllable_taken rest }
         ensures upper_bound { array_vec_len self.new.letters ≤ array_vec_len self.old.letters + 3 }
-        ensures rest { self.new.rest ≡ past_syllable self.old.rest }
+        ensures rest { result ≡ past_syllable rest }
     {
-        let v = self.rest.vector;
-        self.take(b'S', odd_pair(v.x, v.z), descend::past_s);
-        let v = self.rest.vector;
-        self.take(b'H', odd_pair(v.y, v.z), descend::past_h);
-        let v = self.rest.vector;
-        self.take(b'T', odd_pair(v.x, v.y), descend::past_t);
+        let v = rest.vector;
+        let past_s = self.take(b'S', odd_pair(v.x, v.z), rest, descend::past_s);
+        let v = past_s.vector;
+        let past_h = self.take(b'H', odd_pair(v.y, v.z), past_s, descend::past_h);
+        let v = past_h.vector;
+        self.take(b'T', odd_pair(v.x, v.y), past_h, descend::past_t)
     }
 
     // The vector turned to +z: S, H and X taken off where it takes them, and written.
     #[tactic(auto, unfolding(complete::specs::Descent::axis_taken, complete::specs::Descent::upright))]
-    fn put_axis(&mut self)
+    fn put_axis(&mut self, rest: Rest) -> Rest
         requires room { array_vec_len self.old.letters + 3 ≤ most_letters }
-        requires descends { Descends self.old.rest 0 }
-        ensures written { self.new.letters.items ≡ self.old.letters.items ++ axis_taken self.old.rest }
+        requires descends { Descends rest 0 }
+        ensures written { self.new.letters.items ≡ self.old.letters.items ++ axis_taken rest }
         ensures upper_bound { array_vec_len self.new.letters ≤ array_vec_len self.old.letters + 3 }
-        ensures rest { self.new.rest ≡ upright self.old.rest }
+        ensures rest { result ≡ upright rest }
     {
-        self.take(b'S', self.rest.vector.y.is_odd(), descend::off_y);
-        self.take(b'H', self.rest.vector.x.is_odd(), descend::off_x);
-        self.take(
-            b'X',
-            descend::is_downward(self.rest.vector),
-            descend::turned_up,
-        );
+        let v = rest.vector;
+        let off_y = self.take(b'S', v.y.is_odd(), rest, descend::off_y);
+        let v = off_y.vector;
+        let off_x = self.take(b'H', v.x.is_odd(), off_y, descend::off_x);
+        let v = off_x.vector;
+        self.take(b'X', descend::is_downward(v), off_x, descend::turned_up)
     }
 
     // The letters of a diagonal record: T or nothing, S's and W's.
     #[tactic(auto, using(crate::proofs::Phases::phase_below), unfolding(complete::specs::Descent::diagonal_text, complete::specs::Descent::phases_text))]
-    fn put_diagonal(&mut self)
+    fn put_diagonal(&mut self, m: Matrix)
         requires { array_vec_len self.old.letters + 11 ≤ most_letters }
-        ensures written { self.new.letters.items ≡ self.old.letters.items ++ diagonal_text self.old.rest.matrix }
+        ensures written { self.new.letters.items ≡ self.old.letters.items ++ diagonal_text m }
         ensures upper_bound { array_vec_len self.new.letters ≤ array_vec_len self.old.letters + 11 }
     {
-        let first = descend::phase(self.rest.matrix.top.left) as usize;
-        let second = descend::phase(self.rest.matrix.bottom.right) as usize;
+        let first = descend::phase(m.top.left) as usize;
+        let second = descend::phase(m.bottom.right) as usize;
         let turn = (second + 8 - first) % 8;
         self.put_run(b'T', turn % 2);
         self.put_run(b'S', turn / 2);
@@ -106,14 +110,14 @@ impl Descent {
 
     // What is left at exponent 0.
     #[tactic(auto, unfolding(complete::specs::Descent::word_below))]
-    fn put_end(&mut self)
+    fn put_end(&mut self, rest: Rest)
         requires room { array_vec_len self.old.letters + 14 ≤ most_letters }
-        requires descends { Descends self.old.rest 0 }
-        ensures written { self.new.letters.items ≡ self.old.letters.items ++ word_below 0 self.old.rest }
+        requires descends { Descends rest 0 }
+        ensures written { self.new.letters.items ≡ self.old.letters.items ++ word_below 0 rest }
         ensures upper_bound { array_vec_len self.new.letters ≤ array_vec_len self.old.letters + 14 }
     {
-        self.put_axis();
-        self.put_diagonal();
+        let upright = self.put_axis(rest);
+        self.put_diagonal(upright.matrix);
     }
 }
 
@@ -124,17 +128,17 @@ fn letters_of(record: Matrix) -> ArrayVec<u8, MOST_LETTERS>
     ensures spelt { Spelt «record» result.items }
 {
     let vector = descend::vector_of(record);
+    let mut rest = Rest {
+        matrix: record,
+        vector,
+    };
     let mut descent = Descent {
         letters: ArrayVec::new(),
-        rest: Rest {
-            matrix: record,
-            vector,
-        },
     };
     for _ in 0..2 * record.exponent {
-        descent.put_syllable();
+        rest = descent.put_syllable(rest);
     }
-    descent.put_end();
+    descent.put_end(rest);
     descent.letters
 }
 

@@ -22,30 +22,30 @@ loop-init c =
     subst (λ (n : ℕ). UnderWay m n (a_rest m c.vector_of-vector.result) c.new.result.items) all
     (at_start c.requires c.vector_of-vector.ensures c.new.ensures)
 
-pub put_syllable-requires : goal.put_syllable-requires
-put_syllable-requires c = record {
+pub put_syllable-rest-requires : goal.put_syllable-rest-requires
+put_syllable-rest-requires c = record {
   room = omega (arith, c.loop.invariant.room, c.loop-test.true);
   above_zero = record {
     below = 2 * c.args.«record».exponent - (c.loop.counter + 1);
-    descends = subst (Descends c.loop.descent.rest) (one_more _ _ c.loop-test.true) c.loop.invariant.descends;
+    descends = subst (Descends c.loop.rest) (one_more _ _ c.loop-test.true) c.loop.invariant.descends;
   };
 }
 
 pub loop-preserved : goal.loop-preserved
 loop-preserved c =
-    let way = subst (λ (n : ℕ). UnderWay c.args.«record» n c.loop.descent.rest c.loop.descent.letters.items) (one_more _ _ c.loop-test.true) c.loop.invariant in
-    step_down way c.put_syllable.ensures.written c.put_syllable.ensures.rest
+    let way = subst (λ (n : ℕ). UnderWay c.args.«record» n c.loop.rest c.loop.descent.letters.items) (one_more _ _ c.loop-test.true) c.loop.invariant in
+    step_down way c.put_syllable-rest.ensures.written c.put_syllable-rest.ensures.rest
 
 pub put_end-requires : goal.put_end-requires
 put_end-requires c =
     let none_left : 2 * c.args.«record».exponent - c.loop.counter ≡ 0 = omega (arith, c.loop-test.false) in
     record {
       room = omega (arith, c.loop.invariant.room);
-      descends = subst (Descends c.loop.descent.rest) none_left c.loop.invariant.descends;
+      descends = subst (Descends c.loop.rest) none_left c.loop.invariant.descends;
     }
 
 pub returns-clause-spelt : goal.returns-clause-spelt
 returns-clause-spelt c =
     let none_left : 2 * c.args.«record».exponent - c.loop.counter ≡ 0 = omega (arith, c.loop-test.false) in
-    let way = subst (λ (n : ℕ). UnderWay c.args.«record» n c.loop.descent.rest c.loop.descent.letters.items) none_left c.loop.invariant in
+    let way = subst (λ (n : ℕ). UnderWay c.args.«record» n c.loop.rest c.loop.descent.letters.items) none_left c.loop.invariant in
     spelt c.requires.unitary (c.put_end.ensures.written ∙ way.whole)

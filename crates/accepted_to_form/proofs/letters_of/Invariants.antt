@@ -5,4 +5,4 @@ use Rattle.accepted_to_form.proofs.Spelt.{UnderWay}
 use Rattle.accepted_to_form.proofs.letters_of.Given as goal
 
 abbrev pub invariant-loop : goal.invariant-loop
-invariant-loop l = UnderWay l.fn.«record» (2 * l.fn.«record».exponent - l.counter) l.descent.rest l.descent.letters.items
+invariant-loop l = UnderWay l.fn.«record» (2 * l.fn.«record».exponent - l.counter) l.rest l.descent.letters.items

@@ -4,16 +4,16 @@ use Rattle.complete.specs.Descent.{off_y, off_x}
 use Rattle.accepted_to_form.proofs.Descends.{roomy, roomy_off_y, roomy_off_x}
 use Rattle.accepted_to_form.proofs.Descent.put_axis.Goals as goal
 
-pub take-requires-clause-past : goal.take-requires-clause-past
-take-requires-clause-past c = roomy c.requires.descends
+pub take-off_y-requires-clause-past : goal.take-off_y-requires-clause-past
+take-off_y-requires-clause-past c = roomy c.requires.descends
 
-pub take-requires-2-clause-past : goal.take-requires-2-clause-past
-take-requires-2-clause-past c =
-    let first : c.take.new.self.rest ≡ off_y c.args.self.now.rest = search rules in
+pub take-off_x-requires-clause-past : goal.take-off_x-requires-clause-past
+take-off_x-requires-clause-past c =
+    let first : c.take-off_y.result ≡ off_y c.args.rest = search rules in
     rw first (roomy_off_y c.requires.descends)
 
-pub take-requires-3-clause-past : goal.take-requires-3-clause-past
-take-requires-3-clause-past c =
-    let first : c.take.new.self.rest ≡ off_y c.args.self.now.rest = search rules in
-    let second : c.take-2.new.self.rest ≡ off_x c.take.new.self.rest = search rules in
+pub take-requires-clause-past : goal.take-requires-clause-past
+take-requires-clause-past c =
+    let first : c.take-off_y.result ≡ off_y c.args.rest = search rules in
+    let second : c.take-off_x.result ≡ off_x c.take-off_y.result = search rules in
     rw (second, first) (roomy_off_x c.requires.descends)

@@ -4,4 +4,4 @@ use Rattle.std.proofs.Common.{◌≡◌, ◌++◌, replicate}
 use Rattle.accepted_to_form.proofs.Descent.put_run.Given as goal
 
 abbrev pub invariant-loop : goal.invariant-loop
-invariant-loop l = (l.self.letters.items ≡ l.initial.self.letters.items ++ replicate l.counter l.letter) × (l.self.rest ≡ l.initial.self.rest)
+invariant-loop l = l.self.letters.items ≡ l.initial.self.letters.items ++ replicate l.counter l.letter
