@@ -87,8 +87,9 @@ fn product_of(form: &[u8]) -> RoomyRecord
     ensures { result.matrix ≡ matrix_of form.now }
 {
     let mut product = identity();
-    for letter in form.iter().rev() {
-        product = prefixed(*letter, RoomyRecord { matrix: product });
+    for done in 0..form.len() {
+        let letter = form[form.len() - (done + 1)];
+        product = prefixed(letter, RoomyRecord { matrix: product });
     }
     RoomyRecord { matrix: product }
 }
