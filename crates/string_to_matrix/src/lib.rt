@@ -88,7 +88,7 @@ fn product_of(form: &[u8]) -> RoomyRecord
 {
     let mut product = identity();
     for done in 0..form.len() {
-        let letter = form[form.len() - (done + 1)];
+        let letter = form[form.len() - 1 - done];
         product = prefixed(letter, RoomyRecord { matrix: product });
     }
     RoomyRecord { matrix: product }
