@@ -87,6 +87,7 @@ fn product_of(form: &[u8]) -> RoomyRecord
     ensures { result.matrix ≡ matrix_of form.now }
 {
     let mut product = identity();
+    // By place: a must-fail edit can then read a wrong letter, and change nothing else.
     for done in 0..form.len() {
         let letter = form[form.len() - 1 - done];
         product = prefixed(letter, RoomyRecord { matrix: product });
