@@ -5,7 +5,7 @@ use native.Mathlib.Nat.{add-zero}
 use native.Mathlib.Numerals.{add-one}
 use native.Mathlib.Omega.{arith}
 use mathlib.Core.List.{List, [], ◌∷◌, ◌++◌, append_assoc}
-use mathlib.Core.Path.{◌≡◌, refl, sym, ap, ap₂, subst, ◌∙◌}
+use mathlib.Core.Path.{◌≡◌, refl, sym, ap, ap₂, ◌∙◌}
 use lib.ListN.{length, take, drop, set, length-append, length-take, length-drop, take-append-drop, replicate, length-replicate}
 use lib.Seq.{length-take-le, take_at, drop-append-add, drop-drop, set_split}
 use Rattle.place.specs.Place.{put_at, Placed}
@@ -91,11 +91,10 @@ placed_by_copy place f before copied e =
     let size : place + length f - place ≡ length f = omega arith in
     rw (e, size, drop-drop)
 
--- a letter filled over as much of the buffer
+-- a letter filled over as much of the buffer, by whatever tells how much that is
 pub placed_by_fill :
-    (place times letter : ℕ) (before filled : List ℕ) → filled ≡ replicate times letter →
-    take place before ++ (filled ++ drop (place + times - place) (drop place before)) ≡ put_at place (replicate times letter) before
-placed_by_fill place times letter before filled e =
-    subst
-    (λ (n : ℕ). take place before ++ (filled ++ drop (place + n - place) (drop place before)) ≡ put_at place (replicate times letter) before)
-    (length-replicate times letter) (placed_by_copy place (replicate times letter) before filled e)
+    (place times size letter : ℕ) (before filled : List ℕ) → size ≡ times → filled ≡ replicate times letter →
+    take place before ++ (filled ++ drop size (drop place before)) ≡ put_at place (replicate times letter) before
+placed_by_fill place times size letter before filled long e =
+    let same : size ≡ place + length (replicate times letter) - place = omega (arith, length-replicate times letter) in
+    rw same (placed_by_copy place (replicate times letter) before filled e)

@@ -1,8 +1,30 @@
-// A lent buffer written from its start on, like a page: what is written follows what was, and all bytes after it stay.
+// A text written into a lent buffer at a place: the place after it is answered, and all other bytes stay. A buffer written from
+// its start on is a page: what is written follows what was.
 #![tactic(auto)]
 
-ghost use Rattle.std.specs.Prelude.{◌≡◌, [], ◌∷◌, length, replicate};
+ghost use Rattle.std.specs.Prelude.{◌+◌, ◌≤◌, ◌≡◌, [], ◌∷◌, length, replicate};
+ghost use Rattle.place.specs.Place.{Placed};
 ghost use Rattle.place.specs.Page.{HasRoom, Wrote};
+
+// Bytes, one after the other.
+pub fn write_text(buffer: &mut [u8], place: usize, text: &[u8]) -> usize
+    requires { place + length text.now ≤ length buffer.old }
+    ensures { Placed place text.now buffer.old result buffer.new }
+{
+    let next = place + text.len();
+    buffer[place..next].copy_from_slice(text);
+    next
+}
+
+// A letter, a number of times.
+pub fn write_run(buffer: &mut [u8], place: usize, letter: u8, times: usize) -> usize
+    requires { place + times ≤ length buffer.old }
+    ensures { Placed place (replicate times letter) buffer.old result buffer.new }
+{
+    let next = place + times;
+    buffer[place..next].fill(letter);
+    next
+}
 
 // The buffer, and the place up to which it is written: the C interface lends a slice, so it is no ArrayVec. How much room a
 // call asks for is its text's own, so no one fact of the page says it.
@@ -36,9 +58,7 @@ impl<'a> Page<'a> {
         requires { HasRoom self.old (length text.now) }
         ensures { Wrote self.old text.now self.new }
     {
-        let next = self.place + text.len();
-        self.buffer[self.place..next].copy_from_slice(text);
-        self.place = next;
+        self.place = write_text(self.buffer, self.place, text);
     }
 
     // A letter, a number of times.
@@ -46,8 +66,6 @@ impl<'a> Page<'a> {
         requires { HasRoom self.old times }
         ensures { Wrote self.old (replicate times letter) self.new }
     {
-        let next = self.place + times;
-        self.buffer[self.place..next].fill(letter);
-        self.place = next;
+        self.place = write_run(self.buffer, self.place, letter, times);
     }
 }
