@@ -148,7 +148,7 @@ fn column(letter: u8) -> u8
 }
 
 // The table, which a caller binds once and lends: a constant named in a step is copied at each use.
-#[derive(Drop)]
+#[derive(Clone, Copy)]
 pub struct Products {
     entries: [u8; 1152],
 }
@@ -162,6 +162,8 @@ impl Model for Products {
     ghost view = { λ p. p.entries };
 
     ghost invariant = { λ p. ProductTable p.entries };
+
+    ghost inverse = { λ entries. record { entries = entries } };
 }
 
 impl Products {
