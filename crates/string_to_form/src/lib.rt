@@ -12,8 +12,9 @@ use tail::Products;
 pub fn string_to_form(text: &[u8], buffer: &mut [u8]) -> Result<Figures, Refusal>
     ensures { StringToForm text.now buffer.old (said result) buffer.new }
 {
-    let products = Products::new();
+    // The form before the table: the other way round the compiler clears its bytes twice.
     let mut form = Spelled::<STRING_LIMIT>::new();
+    let products = Products::new();
     normalise::normalise(&products, text, &mut form)?;
     write_form::write_form(&form, buffer)
 }
