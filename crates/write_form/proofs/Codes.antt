@@ -1,10 +1,10 @@
 -- Codes in the order of the text: how long their text is, and how many are syllables. Assumes nothing.
-use Prim.Native.Nat.{ℕ, zero, suc, ◌+◌, ◌*◌, ◌≤◌, ◌<◌}
+use Prim.Native.Nat.{ℕ, zero, suc, ◌+◌, ◌-◌, ◌*◌, ◌≤◌, ◌<◌}
 use native.Mathlib.Numerals.{add-one}
 use native.Mathlib.Omega.{arith}
 use borrow.Author.Rules.{rules}
 use mathlib.Core.List.{List, [], ◌∷◌, ◌++◌, reverse, append_assoc, append-nil}
-use mathlib.Core.Path.{◌≡◌, refl, sym, ap, ◌∙◌}
+use mathlib.Core.Path.{◌≡◌, refl, sym, ap, subst, ◌∙◌}
 use lib.ListN.{length, get_or, take, drop, length-append, take-append-drop}
 use lib.Seq.{take-suc}
 use Rattle.std.specs.Prelude.{◌==◌, not, cond, Bool, true, sum_by, count_by}
@@ -14,7 +14,7 @@ use Rattle.matrix.specs.Letter.{T}
 use Rattle.form.specs.Tail.{head_text}
 use Rattle.form.specs.Count.{h_count}
 use Rattle.form.proofs.Count.{length_head}
-use Rattle.extend_form.specs.Spelling.{Spelling, Codes, codes_text, spelled_text}
+use Rattle.extend_form.specs.Spelling.{Spelling, Codes, HT_above, SHT_above, codes_text, spelled_text}
 use Rattle.extend_form.proofs.Spelling.{syllable_count, h_count_spelled}
 use Rattle.extend_form.proofs.Codes.{last_code}
 
@@ -117,6 +117,48 @@ syllables_counted (suc code ∷ below) =
     ap (count_by is_syllable) (reverse-append (suc code ∷ []) below)
     ∙ sum_by-append (λ code. cond (is_syllable code) 1 0) (reverse below) (suc code ∷ [])
     ∙ omega (arith, syllables_counted below, ap {B = ℕ} (λ (b : Bool). cond b 1 0) (more_is_syllable code))
+
+-- every code but the one at the bottom is a syllable
+upper_counted : {top next : ℕ} {below : List ℕ} → Codes (top ∷ next ∷ below) → syllable_count (top ∷ next ∷ below) ≡ suc (syllable_count (next ∷ below))
+unfolding syllable_count
+upper_counted (HT_above good) = refl
+upper_counted (SHT_above good) = refl
+
+over_bottom : (upper : List ℕ) (bottom : ℕ) → Codes (upper ++ bottom ∷ []) → syllable_count (upper ++ bottom ∷ []) ≡ length upper + syllable_count (bottom ∷ [])
+over_bottom [] bottom good = omega arith
+over_bottom (top ∷ []) bottom good = upper_counted good ∙ omega arith
+over_bottom (top ∷ next ∷ upper) bottom good =
+    let under : syllable_count (next ∷ (upper ++ bottom ∷ [])) ≡ length (next ∷ upper) + syllable_count (bottom ∷ []) =
+    over_bottom (next ∷ upper) bottom (last_code good).1 in
+    upper_counted good ∙ omega (arith, under)
+
+counted_from_bottom : (bottom : ℕ) (upper : List ℕ) → Codes (reverse (bottom ∷ upper)) →
+    count_by is_syllable (bottom ∷ upper) ≡ length upper + syllable_count (bottom ∷ [])
+counted_from_bottom bottom upper good =
+    let turned : reverse (bottom ∷ upper) ≡ reverse upper ++ bottom ∷ [] = reverse-append (bottom ∷ []) upper in
+    ap (count_by is_syllable) (sym (reverse-reverse (bottom ∷ upper)))
+    ∙ syllables_counted (reverse (bottom ∷ upper))
+    ∙ ap syllable_count turned
+    ∙ over_bottom (reverse upper) bottom (subst Codes turned good)
+    ∙ ap (λ (n : ℕ). n + syllable_count (bottom ∷ [])) (length-reverse upper)
+
+bottom_T : syllable_count (0 ∷ []) ≡ 0
+unfolding syllable_count
+bottom_T = refl
+
+bottom_syllable : (code : ℕ) → syllable_count (suc code ∷ []) ≡ 1
+unfolding syllable_count
+bottom_syllable code = refl
+
+pub counted_over_T : (codes : List ℕ) → get_or codes 0 0 ≡ 0 → Codes (reverse codes) → length codes - 1 ≡ count_by is_syllable codes
+counted_over_T [] bottom good = omega arith
+counted_over_T (zero ∷ upper) bottom good = omega (arith, counted_from_bottom 0 upper good, bottom_T)
+counted_over_T (suc code ∷ upper) bottom good = absurd (omega (arith, bottom))
+
+pub counted_all : (codes : List ℕ) → (get_or codes 0 0 ≡ 0 → ⊥) → Codes (reverse codes) → length codes ≡ count_by is_syllable codes
+counted_all [] syllable good = absurd (syllable refl)
+counted_all (zero ∷ upper) syllable good = absurd (syllable refl)
+counted_all (suc code ∷ upper) syllable good = omega (arith, counted_from_bottom (suc code) upper good, bottom_syllable code)
 
 -- the H-count of what codes and a tail spell
 pub h_count_seen : (s : Spelling) (codes : List ℕ) (n : ℕ) → record { codes = reverse codes; tail = n } ≡ s → Codes (reverse codes) →

@@ -6,7 +6,7 @@ ghost use Rattle.matrix.specs.Letter.{T};
 ghost use Rattle.form.specs.Tail.{head_text, tail_text};
 ghost use Rattle.answer.specs.Refusal.{said};
 ghost use Rattle.answer.specs.Written.{PutForm};
-ghost use Rattle.extend_form.specs.Spelling.{codes_text, spelled_text};
+ghost use Rattle.extend_form.specs.Spelling.{Codes, codes_text, spelled_text};
 ghost use Rattle.place.specs.Page.{HasRoom, Wrote};
 
 use answer::{Figures, Refusal};
@@ -28,11 +28,18 @@ fn tail_length(tail: Tail) -> usize
     (tail.head() + tail.xs() + tail.ss() + tail.ws()) as usize
 }
 
-// The syllables: every code but a T at the bottom.
+// The syllables: every code but a T at the bottom, which is looked for there alone.
 fn syllables(codes: &[u8]) -> usize
+    requires { Codes (reverse codes.now) }
     ensures { result ≡ count_by (λ code. not (code == 0)) codes.now }
 {
-    codes.iter().filter(|code| **code != 0).count()
+    if codes.is_empty() {
+        return 0;
+    }
+    if codes[0] == 0 {
+        return codes.len() - 1;
+    }
+    codes.len()
 }
 
 // Nothing, H or SH.

@@ -75,6 +75,9 @@ write_tail-requires g c =
     ))
     c.write_codes.ensures
 
+pub syllables-requires : goal.syllables-requires
+syllables-requires g c = rw c.as_slice-codes.ensures.value c.form.invariant
+
 pub returns : goal.returns
 returns g c =
     let codes = c.as_slice-codes.result.now in
