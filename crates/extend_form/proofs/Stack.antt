@@ -5,14 +5,13 @@ use native.Mathlib.Numerals.{add-one}
 use native.Mathlib.Omega.{arith}
 use mathlib.Core.List.{List, [], ◌∷◌}
 use mathlib.Core.Path.{◌≡◌}
-use lib.Dec.{lit<}
 use lib.ListN.{length, take, get_or, length-take}
 use lib.Seq.{take-suc}
 use Rattle.matrix.specs.Letter.{T}
 use Rattle.form.specs.Tail.{tail_h, head_text, tail_text}
 use Rattle.form.proofs.Count.{t_count_append, t_count_within}
 use Rattle.tail.specs.Product.{Product, PastT, BetweenT}
-use Rattle.extend_form.specs.Spelling.{Spelling, Codes, no_codes, codes_text, spelled_text, WellFormed}
+use Rattle.extend_form.specs.Spelling.{Spelling, Codes, codes_text, spelled_text}
 use Rattle.extend_form.specs.Extend.{Fresh, Extended}
 use Rattle.extend_form.proofs.Step.{tail_multiplied, code_pushed, code_popped, extends_more}
 use Rattle.extend_form.proofs.Codes.{t_count_kept, last_code}

@@ -12,7 +12,7 @@ use std::marker::Model;
 use tail::{Products, Tail};
 
 // The codes of the syllables, each with its T, in the order of the text, and the tail that follows them.
-#[derive(Drop)]
+#[derive(Clone, Drop)]
 pub struct Spelled<const N: usize> {
     pub codes: ArrayVec<u8, N>,
     pub tail: Tail,
