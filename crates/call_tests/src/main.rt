@@ -9,7 +9,7 @@ ghost use Rattle.arrayvec.specs.ArrayVec.{array_vec_len};
 use answer::{FORM_LIMIT, FRAME_LENGTH, Refusal};
 use arrayvec::ArrayVec;
 use compare::{Refused, Relation, Which};
-use lines::{Lines, put};
+use lines::{BLOCK, Lines, Output, put};
 use matrix::Matrix;
 use memchr::memchr;
 use read_form::Reading;
@@ -23,16 +23,15 @@ const LINE: usize = FORM_LIMIT + 6;
 // The longest answer, that of a matrix: `ok`, an exponent, sixteen coefficients with their signs, and a line end.
 const ROOM: usize = 376;
 
-// The line of an answer.
+// The line of an answer: it is begun anew for each line, and lent to what answers, since an array that is handed back is copied.
 type Answer = ArrayVec<u8, ROOM>;
 
-fn answer_of(text: &[u8]) -> Answer
+fn begin(answer: &mut Answer, text: &[u8])
     requires { length text.now ≤ ROOM }
-    ensures { result.items ≡ text.now }
+    ensures { answer.new.items ≡ text.now }
 {
-    let mut answer = Answer::new();
-    put(&mut answer, text);
-    answer
+    answer.clear();
+    put(answer, text);
 }
 
 // A whole number after a space.
@@ -49,58 +48,53 @@ fn put_signed(answer: &mut Answer, z: i64)
 }
 
 // `ok`, the exponent and the sixteen coefficients.
-fn matrix_answer(m: Matrix) -> Answer {
-    let mut answer = answer_of(b"ok");
-    put_field(&mut answer, m.exponent as u64);
+fn answer_matrix(answer: &mut Answer, m: Matrix) {
+    begin(answer, b"ok");
+    put_field(answer, m.exponent as u64);
     for z in coefficients::coefficients(m) {
-        put_signed(&mut answer, z);
+        put_signed(answer, z);
     }
-    put(&mut answer, b"\n");
-    answer
+    put(answer, b"\n");
 }
 
 // `ok`, length, T-count, H-count and tail number.
-fn reading_answer(reading: Reading) -> Answer {
+fn answer_reading(answer: &mut Answer, reading: Reading) {
     let figures = reading.figures;
-    let mut answer = answer_of(b"ok");
-    put_field(&mut answer, figures.length as u64);
-    put_field(&mut answer, figures.tcount as u64);
-    put_field(&mut answer, figures.hcount as u64);
-    put_field(&mut answer, reading.tail as u64);
-    put(&mut answer, b"\n");
-    answer
+    begin(answer, b"ok");
+    put_field(answer, figures.length as u64);
+    put_field(answer, figures.tcount as u64);
+    put_field(answer, figures.hcount as u64);
+    put_field(answer, reading.tail as u64);
+    put(answer, b"\n");
 }
 
-fn relation_answer(relation: Relation) -> Answer {
+fn answer_relation(answer: &mut Answer, relation: Relation) {
     match relation {
-        Relation::Same => answer_of(b"same\n"),
-        Relation::Different => answer_of(b"different\n"),
+        Relation::Same => begin(answer, b"same\n"),
+        Relation::Different => begin(answer, b"different\n"),
         Relation::Phase(phase) => {
-            let mut answer = answer_of(b"phase");
-            put_field(&mut answer, phase as u64);
-            put(&mut answer, b"\n");
-            answer
+            begin(answer, b"phase");
+            put_field(answer, phase as u64);
+            put(answer, b"\n");
         }
     }
 }
 
 // `no`, refusal, place.
-fn refusal_answer(refusal: Refusal) -> Answer {
-    let mut answer = Answer::new();
-    put_refusal(&mut answer, refusal);
-    answer
+fn answer_refusal(answer: &mut Answer, refusal: Refusal) {
+    answer.clear();
+    put_refusal(answer, refusal);
 }
 
 // `no`, refusal, place, and which string it concerns: report's `put_refusal` ends the line before that.
-fn refused_answer(refused: Refused) -> Answer {
-    let mut answer = answer_of(b"no");
-    put_field(&mut answer, refused.refusal.number() as u64);
-    put_field(&mut answer, refused.refusal.place() as u64);
+fn answer_refused(answer: &mut Answer, refused: Refused) {
+    begin(answer, b"no");
+    put_field(answer, refused.refusal.number() as u64);
+    put_field(answer, refused.refusal.place() as u64);
     match refused.which {
-        Which::First => put(&mut answer, b" first\n"),
-        Which::Second => put(&mut answer, b" second\n"),
+        Which::First => put(answer, b" first\n"),
+        Which::Second => put(answer, b" second\n"),
     }
-    answer
 }
 
 // Room for a frame.
@@ -111,13 +105,13 @@ fn frame_buffer() -> [u8; FRAME_LENGTH]
 }
 
 // A frame read and written again.
-fn frame_again(text: &[u8]) -> Result<Answer, Refusal> {
+fn frame_again(answer: &mut Answer, text: &[u8]) -> Result<(), Refusal> {
     let mut frame = frame_buffer();
     frame::matrix_to_frame(frame::frame_to_matrix(text)?, &mut frame)?;
-    let mut answer = answer_of(b"ok ");
-    put(&mut answer, &frame);
-    put(&mut answer, b"\n");
-    Ok(answer)
+    begin(answer, b"ok ");
+    put(answer, &frame);
+    put(answer, b"\n");
+    Ok(())
 }
 
 // A text's first word, and what comes after the space behind it.
@@ -128,30 +122,49 @@ fn split_word(text: &[u8]) -> (&[u8], &[u8]) {
     }
 }
 
-fn compared(texts: &[u8]) -> Answer {
+fn compared(answer: &mut Answer, texts: &[u8]) {
     let (first, second) = split_word(texts);
-    compare::compare(first, second).map_or_else(refused_answer, relation_answer)
+    match compare::compare(first, second) {
+        Ok(relation) => answer_relation(answer, relation),
+        Err(refused) => answer_refused(answer, refused),
+    }
 }
 
 // The answer to a line, which names a call.
-fn answer(line: &[u8]) -> Answer {
+fn answer_line(answer: &mut Answer, line: &[u8]) {
     let (name, text) = split_word(line);
     let answered = match name {
-        b"read" => read_form::read_form(text).map(reading_answer),
-        b"compare" => Ok(compared(text)),
-        b"matrix" => string_to_matrix::string_to_matrix(text).map(matrix_answer),
-        b"frame" => frame_again(text),
-        _ => Ok(answer_of(b"no such call\n")),
+        b"read" => read_form::read_form(text).map(|reading| answer_reading(answer, reading)),
+        b"compare" => Ok(compared(answer, text)),
+        b"matrix" => string_to_matrix::string_to_matrix(text).map(|m| answer_matrix(answer, m)),
+        b"frame" => frame_again(answer, text),
+        _ => Ok(begin(answer, b"no such call\n")),
     };
-    answered.unwrap_or_else(refusal_answer)
+    if let Err(refusal) = answered {
+        answer_refusal(answer, refusal);
+    }
+}
+
+// The answer to a line, added to the output.
+fn put_line(output: &mut Output, answer: &mut Answer, line: &[u8])
+    requires { array_vec_len output.old + ROOM ≤ BLOCK }
+{
+    answer_line(answer, line);
+    put(output, answer.as_slice());
 }
 
 // Answers each line. A line is held as `LINE` says.
 fn run<R: Read + Drop, W: Write + Drop, const N: usize>(lines: &mut Lines<R, W, N>)
     requires { form_limit + 6 ≡ N }
 {
+    let mut answer = Answer::new();
     // Where reading or writing fails, the program ends as at the end of the input.
-    let _ = lines.each_line(ROOM, |line, output| put(output, &answer(line)));
+    let _ = lines.each_line(
+        ROOM,
+        |line, output|
+            requires { array_vec_len output.old + ROOM ≤ BLOCK }
+        { put_line(output, &mut answer, line) },
+    );
 }
 
 fn main(rt: HostRuntime) {
