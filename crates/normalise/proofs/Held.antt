@@ -19,10 +19,10 @@ use Rattle.extend_form.proofs.Codes.{spelled_form, t_count_kept}
 use Rattle.extend_form.proofs.Stack.{fresh_text}
 use Rattle.normalise.specs.Normalise.{Normalises}
 
-module _ (text : List ℕ) (s s' : Spelling) (fresh : Fresh s) (within : length text ≤ string_limit) where
-  form_taken : Extended s text s' → FormOf text (spelled_text s')
-  form_taken taken = record { form = spelled_form taken.well_formed; same = rw (fresh_text fresh) at taken.extends.same }
+pub form_taken : {text : List ℕ} {s s' : Spelling} → Fresh s → Extended s text s' → FormOf text (spelled_text s')
+form_taken fresh taken = record { form = spelled_form taken.well_formed; same = rw (fresh_text fresh) at taken.extends.same }
 
+module _ (text : List ℕ) (s s' : Spelling) (fresh : Fresh s) (within : length text ≤ string_limit) where
   -- each code has a T of its own
   few_codes : Extended s text s' → length s'.codes ≤ string_limit
   few_codes taken =
@@ -36,4 +36,4 @@ module _ (text : List ℕ) (s s' : Spelling) (fresh : Fresh s) (within : length 
       let err = err_from_is_err_and result told in
       rw (err.1, names place err.0 err.2) (bad_letter within bad)
   normalised names (Ok done) result (letters, taken) told =
-      rw told (record { accepted = record { within = within; letters = letters }; well_formed = taken.well_formed; few = few_codes taken; form = form_taken taken })
+      rw told (record { accepted = record { within = within; letters = letters }; well_formed = taken.well_formed; few = few_codes taken; form = form_taken fresh taken })
