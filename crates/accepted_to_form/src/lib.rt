@@ -1,7 +1,7 @@
 // The form of an accepted record: it is taken down to a letter list, and string to form makes the form.
 #![tactic(auto)]
 
-ghost use Rattle.std.specs.Prelude.{◌≡◌, ◌+◌, ◌≤◌, ◌<◌, ◌++◌, replicate};
+ghost use Rattle.std.specs.Prelude.{[], ◌≡◌, ◌+◌, ◌≤◌, ◌<◌, ◌++◌, replicate};
 ghost use Rattle.arrayvec.specs.ArrayVec.{array_vec_len};
 ghost use Rattle.answer.specs.Refusal.{said};
 ghost use Rattle.accept_record.specs.Accept.{AcceptedRecord};
@@ -119,27 +119,25 @@ impl Descent {
         let upright = self.put_axis(rest);
         self.put_diagonal(upright.matrix);
     }
-}
 
-// The letter list of an accepted record.
-fn letters_of(record: Matrix) -> ArrayVec<u8, MOST_LETTERS>
-    requires { AcceptedRecord «record» }
-    ensures upper_bound { array_vec_len result ≤ most_letters }
-    ensures spelt { Spelt «record» result.items }
-{
-    let vector = descend::vector_of(record);
-    let mut rest = Rest {
-        matrix: record,
-        vector,
-    };
-    let mut descent = Descent {
-        letters: ArrayVec::new(),
-    };
-    for _ in 0..2 * record.exponent {
-        rest = descent.put_syllable(rest);
+    // The letters of an accepted record, where there are none yet. Lent and not handed back, since a vector that is handed
+    // back is copied.
+    fn put_letters(&mut self, record: Matrix)
+        requires accepted { AcceptedRecord «record» }
+        requires none_yet { self.old.letters.items ≡ [] }
+        ensures upper_bound { array_vec_len self.new.letters ≤ most_letters }
+        ensures spelt { Spelt «record» self.new.letters.items }
+    {
+        let vector = descend::vector_of(record);
+        let mut rest = Rest {
+            matrix: record,
+            vector,
+        };
+        for _ in 0..2 * record.exponent {
+            rest = self.put_syllable(rest);
+        }
+        self.put_end(rest);
     }
-    descent.put_end(rest);
-    descent.letters
 }
 
 // The form of an accepted record, written into a lent buffer where it has room.
@@ -148,6 +146,9 @@ pub fn accepted_to_form(record: Matrix, buffer: &mut [u8]) -> Result<Figures, Re
     requires { AcceptedRecord «record» }
     ensures { AcceptedToForm «record» buffer.old (said result) buffer.new }
 {
-    let letters = letters_of(record);
-    string_to_form::string_to_form(&letters, buffer)
+    let mut descent = Descent {
+        letters: ArrayVec::new(),
+    };
+    descent.put_letters(record);
+    string_to_form::string_to_form(&descent.letters, buffer)
 }
