@@ -1,7 +1,7 @@
 // Comparison of two strings: same, a phase apart, or different.
 #![tactic(auto)]
 
-ghost use Rattle.std.specs.Prelude.{◌+◌, ◌%◌, ◌<◌, ◌≡◌, Ok};
+ghost use Rattle.std.specs.Prelude.{◌+◌, ◌%◌, ◌<◌, ◌≡◌, ◌↔◌, true, Ok};
 ghost use Rattle.form.specs.Tail.{tail_a};
 ghost use Rattle.extend_form.specs.Spelling.{spelled_text};
 ghost use Rattle.compare.specs.Promise.{verdict, Related, Compare};
@@ -39,11 +39,26 @@ fn between(from: Tail, to: Tail) -> usize
     ((to.ws() + 8 - from.ws()) % 8) as usize
 }
 
+// Whether the codes agree, place by place: over `!=` of both no edit that forgets a code is refused for that alone.
+fn same_codes(first: &[u8], second: &[u8]) -> bool
+    ensures { result ≡ true ↔ first.now ≡ second.now }
+{
+    if first.len() != second.len() {
+        return false;
+    }
+    for i in 0..first.len() {
+        if first[i] != second[i] {
+            return false;
+        }
+    }
+    true
+}
+
 // Two forms: a phase changes nothing but the last three bits of the tail.
 fn relate<const N: usize>(first: &Spelled<N>, second: &Spelled<N>) -> Relation
     ensures { Related (spelled_text first.now) (spelled_text second.now) (verdict (Ok result)) }
 {
-    if first.codes != second.codes || first.tail.number / 8 != second.tail.number / 8 {
+    if !same_codes(&first.codes, &second.codes) || first.tail.number / 8 != second.tail.number / 8 {
         return Relation::Different;
     }
     match between(second.tail, first.tail) {
