@@ -27,13 +27,14 @@ put_syllable-rest-requires c = record {
   room = omega (arith, c.loop.invariant.room, c.loop-test.true);
   above_zero = record {
     below = 2 * c.args.«record».exponent - (c.loop.counter + 1);
-    descends = subst (Descends c.loop.rest) (one_more _ _ c.loop-test.true) c.loop.invariant.descends;
+    descends = subst (Descends c.loop.rest) (one_more _ c.loop.counter (omega (arith, c.loop-test.true))) c.loop.invariant.descends;
   };
 }
 
 pub loop-preserved : goal.loop-preserved
 loop-preserved c =
-    let way = subst (λ (n : ℕ). UnderWay c.args.«record» n c.loop.rest c.loop.self.letters.items) (one_more _ _ c.loop-test.true) c.loop.invariant in
+    let way = subst (λ (n : ℕ). UnderWay c.args.«record» n c.loop.rest c.loop.self.letters.items) (one_more _ c.loop.counter (omega (arith, c.loop-test.true)))
+    c.loop.invariant in
     step_down way c.put_syllable-rest.ensures.written c.put_syllable-rest.ensures.rest
 
 pub put_end-requires : goal.put_end-requires
