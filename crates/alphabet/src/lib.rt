@@ -10,13 +10,7 @@ ghost use Rattle.lists.specs.Found.{Finds};
 pub fn is_letter(b: u8) -> bool
     ensures { result ≡ is_letter b }
 {
-    b == b'H'
-        || b == b'S'
-        || b == b'T'
-        || b == b'W'
-        || b == b'X'
-        || b == b'Y'
-        || b == b'Z'
+    b == b'H' || b == b'S' || b == b'T' || b == b'W' || b == b'X' || b == b'Y' || b == b'Z'
 }
 
 // The first place of a byte outside the letters.
