@@ -6,7 +6,7 @@ ghost use Rattle.std.specs.Io.KnownBytes.{Appends};
 ghost use Rattle.arrayvec.specs.ArrayVec.{array_vec_len};
 ghost use Rattle.lines.specs.Calls.{CalledAtLine};
 ghost use Rattle.lines.specs.Rest.{unread, moved, ReadsOn};
-ghost use Rattle.lines.specs.Line.{Takes, Room, Comes, Answers};
+ghost use Rattle.lines.specs.Line.{Takes, last, Room, Comes, Answers};
 
 use arrayvec::ArrayVec;
 use memchr::memchr;
@@ -49,6 +49,13 @@ pub fn take_line<const N: usize>(line: &mut ArrayVec<u8, N>, part: &[u8]) -> Opt
     };
     hold(line, &part[..end]);
     Some(end + 1)
+}
+
+// Whether what the end of the input ends is a line: one if it has a byte.
+fn is_line(held: &[u8]) -> bool
+    ensures { result ≡ last held.now }
+{
+    !held.is_empty()
 }
 
 // An input, of which a block is read at a time: from `at` up to `end` the block is still to be taken. `closed` is true once
@@ -191,7 +198,7 @@ impl<R: Read + Drop, W: Write + Drop, const N: usize> Lines<R, W, N> {
                 return Ok(true);
             }
             if !self.read_on()? {
-                return Ok(!self.line.is_empty());
+                return Ok(is_line(&self.line));
             }
         }
         Err(io::Error::from(ErrorKind::Other))

@@ -34,7 +34,7 @@ returns-in_err-read_on-clause-line g c =
 pub returns-then-not-branch-clause-line : goal.returns-then-not-branch-clause-line
 returns-then-not-branch-clause-line g c =
     let none : c.in_ok-read_on.field-0 ≡ false = search rules in
-    rw (c.is_empty.ensures, c.read_on.ensures.line, c.in_ok-read_on.ensures.written)
+    rw (c.is_line.ensures, c.deref.ensures.0, c.read_on.ensures.line, c.in_ok-read_on.ensures.written)
     (c.loop.invariant.turns _ _ _ _
     (Turns.ended (rw c.rest.ensures at c.in_default.ensures) (rw none at c.in_ok-read_on.ensures.read)))
 
