@@ -39,7 +39,7 @@ fn between(from: Tail, to: Tail) -> usize
     ((to.ws() + 8 - from.ws()) % 8) as usize
 }
 
-// Whether the codes agree, place by place: over `!=` of both no edit that forgets a code is refused for that alone.
+// Whether the codes agree. Place by place, since over `!=` an edit was refused for its form, whatever it meant.
 fn same_codes(first: &[u8], second: &[u8]) -> bool
     ensures { result ≡ true ↔ first.now ≡ second.now }
 {
