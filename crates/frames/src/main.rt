@@ -15,8 +15,8 @@ use std::io::{Read, Write};
 // One byte more than a frame has, so that a longer line is seen to be longer.
 const LINE: usize = FRAME_LENGTH + 1;
 
-// The line of the answer to a frame. Twin of `letters::answer`, as is `main`: one function for
-// both could name neither call's promise.
+// The line of the answer to a frame. Twin of `letters::answer`, as are `run` and `main`: one
+// function for both could name neither call's promise.
 fn answer(line: &[u8], form: &mut [u8], output: &mut Output)
     requires { array_vec_len output.old + line_room + length form.old ≤ BLOCK }
     ensures { Answered FrameToForm line.now form.old output.old.items output.new.items }

@@ -15,8 +15,8 @@ use std::io::{Read, Write};
 // One byte more than a string may have, so that a longer line is seen to be longer.
 const LINE: usize = STRING_LIMIT + 1;
 
-// The line of the answer to a line of letters. Twin of `frames::answer`, as is `main`: one
-// function for both could name neither call's promise.
+// The line of the answer to a line of letters. Twin of `frames::answer`, as are `run` and `main`:
+// one function for both could name neither call's promise.
 fn answer(line: &[u8], form: &mut [u8], output: &mut Output)
     requires { array_vec_len output.old + line_room + length form.old ≤ BLOCK }
     ensures { Answered StringToForm line.now form.old output.old.items output.new.items }
